@@ -1,0 +1,9 @@
+-- Term rewriting: the definitions and theorems that the contracts cite.
+pub mod Terms
+pub mod Rules
+pub mod Order
+pub mod Overlaps
+pub mod Books
+pub mod Ways
+pub mod Theorems
+pub mod Sums
