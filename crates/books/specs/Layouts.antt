@@ -17,6 +17,7 @@ use Rattle.std.specs.declared.option.Option.the-variants.{Some, None}
 abbrev pub sides : List Eq → List Term
 sides [] = []
 sides (e ∷ es) = e .left ∷ e .right ∷ sides es
+
 abbrev pub sides-of : Book → List Term
 sides-of b = sides (b .eqs) ++ sides (b .rules)
 

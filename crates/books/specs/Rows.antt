@@ -12,6 +12,7 @@ abbrev mutual
   pub row : Term → List ℕ
   row (letter x) = 0 ∷ x ∷ []
   row (sign f ts) = 1 ∷ f ∷ rows ts
+
   pub rows : Terms → List ℕ
   rows none1 = []
   rows (and1 t ts) = row t ++ rows ts
@@ -24,12 +25,13 @@ rowEs (e ∷ es) = row (e .left) ++ (row (e .right) ++ rowEs es)
 -- a book: the number of signs, the parts of each, the rank of each, the number of equations, of rules, and then these
 abbrev pub rowB : Book → List ℕ
 rowB b = length (b .parts) ∷ (b .parts ++ (b .ranks ++
-  (length (b .eqs) ∷ length (b .rules) ∷ (rowEs (b .eqs) ++ rowEs (b .rules)))))
+    (length (b .eqs) ∷ length (b .rules) ∷ (rowEs (b .eqs) ++ rowEs (b .rules)))))
 
 -- ways: for each rule how many terms, and these
 abbrev pub rowTerms : List Term → List ℕ
 rowTerms [] = []
 rowTerms (t ∷ ts) = row t ++ rowTerms ts
+
 abbrev pub rowWays : List (List Term) → List ℕ
 rowWays [] = []
 rowWays (w ∷ ws) = length w ∷ (rowTerms w ++ rowWays ws)
@@ -48,6 +50,7 @@ pub record Of (ps : List ℕ) (a : List ℕ) (t : Term) : Type 0 where
 abbrev pub All-fit : List ℕ → List Term → Type 0
 All-fit ps [] = Unit {0}
 All-fit ps (t ∷ ts) = Fits ps t × All-fit ps ts
+
 abbrev pub Ways-fit : List ℕ → List (List Term) → Type 0
 Ways-fit ps [] = Unit {0}
 Ways-fit ps (w ∷ ws) = All-fit ps w × Ways-fit ps ws

@@ -11,12 +11,16 @@ use Rattle.books.specs.Reading.{book-of}
 -- a row is the writing of at most one book, which is a function of the words; of at most one term; of at most one list of ways
 abbrev pub One-book : Type 0
 One-book = (s : List ℕ) (b c : Book) → Reads s b → Reads s c → b ≡ c
+
 abbrev pub The-book : Type 0
 The-book = (s : List ℕ) (b : Book) → Reads s b → book-of s ≡ b
+
 abbrev pub One-term : Type 0
 One-term = (ps a : List ℕ) (t u : Term) → Of ps a t → Of ps a u → t ≡ u
+
 abbrev pub One-ways : Type 0
 One-ways = (ps h : List ℕ) (ws vs : List (List Term)) → Ways-fit ps ws → Ways-fit ps vs → rowWays ws ≡ h → rowWays vs ≡ h → ws ≡ vs
+
 pub record One-reading : Type 0 where
   pub book : One-book
   pub the-book : The-book
