@@ -43,6 +43,7 @@ pub record Head-fine (s : List ℕ) : Type 0 where
   pub differ : (i j : ℕ) → i < j → j < length (ranks-of s) → getD (ranks-of s) i 0 ≡ getD (ranks-of s) j 0 → ⊥
   pub few-eqs : eqs-of s ≤ 64
   pub few-rules : rules-of s ≤ 64
+
 -- these numbers, or that the words are no book
 abbrev pub Head-read : List ℕ → Maybe Head → Type 0
 Head-read s (Some h) = Head-fine s × (h .signs ≡ signs-of s) × (h .equations ≡ eqs-of s) × (h .rules ≡ rules-of s)
@@ -52,6 +53,7 @@ Head-read s None = (b : Book) → Reads s b → ⊥
 abbrev pub listed : Terms → List Term
 listed none1 = []
 listed (and1 t ts) = t ∷ listed ts
+
 abbrev pub Short : Terms → Type 0
 Short none1 = Unit {0}
 Short (and1 t ts) = (size t ≤ 32) × Short ts
@@ -66,6 +68,7 @@ pub record Sides-at (ps ws : List ℕ) (n a z : ℕ) (starts : List ℕ) : Type 
   pub each : (i : ℕ) (t : Term) → nth (listed terms) i ≡ some t → Term-at ws (getD starts i 0) (getD starts (i + 1) 0) t
   pub last : getD starts n 0 ≡ z
   pub within : z ≤ length ws
+
 -- n sides stand from place a to the end of the words, or don't
 abbrev pub Sides-read : List ℕ → List ℕ → ℕ → ℕ → Maybe (List ℕ) → Type 0
 Sides-read ps ws n a (Some starts) = Sides-at ps ws n a (length ws) starts

@@ -6,7 +6,6 @@ ghost use lib.ListN.{length, getD};
 ghost use Rattle.books.specs.Layouts.{Head-read as HeadRead};
 ghost use Rattle.books.specs.Layouts.{Sides-read as SidesRead};
 ghost use Rattle.books.specs.Layouts.{Book-read as BookRead};
-
 use crate::layout::Layout;
 use crate::words::Letters;
 use crate::words::term_end;
