@@ -13,7 +13,7 @@ use Rattle.rewriting.specs.Books.{Book, Fine, Differ}
 use Rattle.books.specs.Rows.{rows, rowEs, rowB, Reads}
 use Rattle.books.specs.Reading.{read, terms-of, others, paired}
 use Rattle.books.specs.Reading.{book-of, signs-of, parts-of, ranks-of, eqs-of, rules-of, body-of}
-use Rattle.books.specs.Layouts.{sides, sides-of, listed, Laid, Head-fine, Short, Sides-at, Sides-read, Book-read}
+use Rattle.books.specs.Layouts.{sides, sides-of, listed, Laid, Few-parts, All-differ, Head-fine, Short, Sides-at, Sides-read, Book-read}
 use Rattle.books.specs.declared.layout.Layout.{Layout}
 use Rattle.books.specs.declared.words.Letters.the-variants.{Small}
 use Rattle.std.specs.declared.option.Option.{Option as Maybe}
@@ -28,11 +28,11 @@ use Rattle.books.proofs.Siding.{short-others}
 use Rattle.books.proofs.Unique.{sides-count, all-over-sides}
 
 -- elements that differ by twos
-differ-at : (xs : List ℕ) → ((i j : ℕ) → i < j → j < length xs → getD xs i 0 ≡ getD xs j 0 → ⊥) →
+differ-at : (xs : List ℕ) → All-differ xs →
     (i j x : ℕ) → nth xs i ≡ some x → nth xs j ≡ some x → i < j → ⊥
 differ-at xs h i j x p q l = h i j l (nth-below xs j x q) (nth-is xs i x 0 p ∙ sym (nth-is xs j x 0 q))
 
-pub differ-all : (xs : List ℕ) → ((i j : ℕ) → i < j → j < length xs → getD xs i 0 ≡ getD xs j 0 → ⊥) → Differ xs
+differ-all : (xs : List ℕ) → All-differ xs → Differ xs
 differ-all xs h i j x p q = aux (decLt i j) (decLt j i)
   where
     aux : Dec (i < j) → Dec (j < i) → i ≡ j
@@ -55,7 +55,8 @@ module _ (s starts : List ℕ) (hf : Head-fine s)
   body-rows = sd .written ∙ ap (λ (v : List ℕ). rows (sd .terms) ++ v) (drop-length s)
 
   all-read : terms-of (read Small (parts-of s) (2 * eqs-of s + 2 * rules-of s) (drop (body-of s) s)) ≡ sd .terms
-  all-read = ap terms-of (ap₂ (read Small (parts-of s)) (sym (sd .counted)) body-rows ∙ read-these Small (parts-of s) (sd .terms) [] (sd .over))
+  all-read = ap terms-of (ap₂ (read Small (parts-of s)) (sym (sd .counted)) body-rows
+      ∙ read-these Small (parts-of s) (sd .terms) [] (sd .over))
 
   behind : Terms
   behind = others (2 * eqs-of s) (sd .terms)
@@ -119,7 +120,8 @@ module _ (s starts : List ℕ) (hf : Head-fine s)
     few-rules = rw rules-length (hf .few-rules);
     eqs = rw eqs-are (sides-paired (parts-of s) (eqs-of s) (sd .terms) (sd .over) (sd .short));
     rules = rw rules-are (sides-paired (parts-of s) (rules-of s) behind
-        (over-others Small-letter (parts-of s) (2 * eqs-of s) (sd .terms) (sd .over)) (short-others (2 * eqs-of s) (sd .terms) (sd .short)));
+        (over-others Small-letter (parts-of s) (2 * eqs-of s) (sd .terms) (sd .over))
+        (short-others (2 * eqs-of s) (sd .terms) (sd .short)));
   }
 
   pub is-book : Reads s (book-of s)
@@ -146,15 +148,14 @@ sides-here s k e q r a b c h =
     (subst (λ (j : ℕ). Sides-read (take (1 + k - 1) (drop 1 s)) s j (body-of s) r) n
     (subst (λ (j : ℕ). Sides-read (take (1 + k - 1) (drop 1 s)) s (2 * e + 2 * q) (3 + 2 * j) r) a h))
 
--- what is no book; ps and ks are the parts and the ranks, as a program has them
-pub many-parts : (s : List ℕ) (b : Book) → Reads s b → (ps : List ℕ) → ps ≡ parts-of s → (f : ℕ) → f < length ps → 4 < getD ps f 0 → ⊥
-many-parts s b r ps e f l h =
+-- what the row of a book has; ps and ks are its parts and ranks, as a program has them
+pub book-parts : (s : List ℕ) (b : Book) → Reads s b → (ps : List ℕ) → ps ≡ parts-of s → Few-parts ps
+book-parts s b r ps e f l =
     let k = ap (λ (qs : List ℕ). nth qs f) (sym (e ∙ head-of s b r .parts)) ∙ nth-getD ps f 0 l in
-    omega (arith, r .fine .few-parts f (getD ps f 0) k)
+    r .fine .few-parts f (getD ps f 0) k
 
-pub equal-ranks : (s : List ℕ) (b : Book) → Reads s b → (ks : List ℕ) → ks ≡ ranks-of s → (i j : ℕ) → i < j → j < length ks →
-    getD ks i 0 ≡ getD ks j 0 → ⊥
-equal-ranks s b r ks q i j l h e =
+pub book-ranks : (s : List ℕ) (b : Book) → Reads s b → (ks : List ℕ) → ks ≡ ranks-of s → All-differ ks
+book-ranks s b r ks q i j l h e =
     let d = ap (λ (qs : List ℕ). nth qs j) (sym (q ∙ head-of s b r .ranks)) ∙ nth-getD ks j 0 h in
     let m = ap (λ (qs : List ℕ). nth qs i) (sym (q ∙ head-of s b r .ranks)) ∙ (nth-getD ks i 0 (omega arith) ∙ ap some e) in
     omega (arith, r .fine .differ i j (getD ks j 0) m d)
@@ -168,4 +169,5 @@ other-sides s h b r =
     (rows-both (b .eqs) (b .rules) ∙ sym (d .body))
   where
     short-rules : (b : Book) → Fine b → Short (terms (sides (b .rules)))
-    short-rules b f = subst (λ (ts : List Term). Short (terms ts)) (append-nil (sides (b .rules))) (short-sides (b .parts) (b .rules) [] (f .rules) tt)
+    short-rules b f = subst (λ (ts : List Term). Short (terms ts)) (append-nil (sides (b .rules)))
+        (short-sides (b .parts) (b .rules) [] (f .rules) tt)

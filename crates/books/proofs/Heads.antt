@@ -67,7 +67,15 @@ module _ (b : Book) (same : length (b .ranks) ≡ length (b .parts)) where
 
   row-head : Head (rowB b) b
   unfolding back
-  row-head = record { signs = refl; parts = row-parts; ranks = row-ranks; eqs = at-front 0; rules = at-front 1; long = row-long; body = row-body }
+  row-head = record {
+    signs = refl;
+    parts = row-parts;
+    ranks = row-ranks;
+    eqs = at-front 0;
+    rules = at-front 1;
+    long = row-long;
+    body = row-body;
+  }
 
 pub head-of : (s : List ℕ) (b : Book) → Reads s b → Head s b
 head-of s b r = subst (λ (v : List ℕ). Head v b) (r .is) (row-head b (r .fine .ranked))

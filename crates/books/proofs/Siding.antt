@@ -73,7 +73,8 @@ module _ (ps ws : List ℕ) where
         kept : (i : ℕ) → i < n + 1 → getD (set starts (n + 1) e) i 0 ≡ getD starts i 0
         kept i h = let ne : i ≢ n + 1 = omega arith in getD-set-other starts (n + 1) i e 0 ne
 
-        at-each : (i : ℕ) (u : Term) → ((i < count (s .terms)) × (nth (listed (s .terms)) i ≡ some u)) ⊎ ((i ≡ count (s .terms)) × (t ≡ u)) →
+        at-each : (i : ℕ) (u : Term) →
+            ((i < count (s .terms)) × (nth (listed (s .terms)) i ≡ some u)) ⊎ ((i ≡ count (s .terms)) × (t ≡ u)) →
             Term-at ws (getD (set starts (n + 1) e) i 0) (getD (set starts (n + 1) e) (i + 1) 0) u
         at-each i u (inl p) =
             let b : i < n + 1 = omega (arith, p .0, s .counted) in
@@ -88,10 +89,11 @@ module _ (ps ws : List ℕ) where
             rw (f, g) (subst (Term-at ws z e) (p .1) at)
 
   -- whatever sides the words have, what is left of them comes next
-  module _ (n a z : ℕ) (starts : List ℕ) (s : Sides-at ps ws n a z starts) (us : Terms) (o : All-over Small-letter ps us) (w : rows us ≡ drop a ws) where
+  module _ (n a z : ℕ) (starts : List ℕ) (s : Sides-at ps ws n a z starts)
+      (us : Terms) (o : All-over Small-letter ps us) (w : rows us ≡ drop a ws) where
     pub what-is-left : n ≤ count us → drop z ws ≡ rows (others n us)
-    what-is-left h = rows-once Small ps (s .terms) (first n us) (drop z ws) (rows (others n us)) (s .over) (over-first Small-letter ps n us o)
-        (s .counted ∙ sym (count-first n us h))
+    what-is-left h = rows-once Small ps (s .terms) (first n us) (drop z ws) (rows (others n us))
+        (s .over) (over-first Small-letter ps n us o) (s .counted ∙ sym (count-first n us h))
         (sym (s .written) ∙ (sym w ∙ (ap rows (sym (glue-split n us)) ∙ rows-glue (first n us) (others n us)))) .1
 
     stands-next : (vs : Terms) → drop z ws ≡ rows vs → All-over Small-letter ps vs → Short vs → 0 < count vs →
@@ -105,12 +107,13 @@ module _ (ps ws : List ℕ) where
         (omega (arith, count-others n us (omega arith)))
 
   -- why there are none: no term, one too long, or more words
-  pub no-side : (n m a z : ℕ) (starts : List ℕ) → Sides-at ps ws n a z starts → n < m → Term-end Small ps ws z None → Sides-read ps ws m a None
+  pub no-side : (n m a z : ℕ) (starts : List ℕ) → Sides-at ps ws n a z starts → n < m → Term-end Small ps ws z None →
+      Sides-read ps ws m a None
   no-side n m a z starts s h none-there us c o q w =
       let t = next-side n a z starts s us o w q (omega arith) in none-there (t .0) (t .1) (t .2) (t .4)
 
-  pub long-side : (n m a z e : ℕ) (starts : List ℕ) → Sides-at ps ws n a z starts → n < m → (t : Term) → Over Small-letter ps t → Term-at ws z e t →
-      z + 64 < e → Sides-read ps ws m a None
+  pub long-side : (n m a z e : ℕ) (starts : List ℕ) → Sides-at ps ws n a z starts → n < m →
+      (t : Term) → Over Small-letter ps t → Term-at ws z e t → z + 64 < e → Sides-read ps ws m a None
   long-side n m a z e starts s h t p at long us c o q w =
       let k = next-side n a z starts s us o w q (omega arith) in
       let g = rows-once Small ps (and1 t none1) (and1 (k .0) none1) (drop e ws) (k .1) (p, tt) (k .2, tt) refl

@@ -73,7 +73,8 @@ unfolding book-of
 the-book s b r =
     let h = head-of s b r in
     let e = ap terms-of (read-book s b r) in
-    let g : terms (sides-of b) ≡ glue (terms (sides (b .eqs))) (terms (sides (b .rules))) = glue-terms (sides (b .eqs)) (sides (b .rules)) in
+    let g : terms (sides-of b) ≡ glue (terms (sides (b .eqs))) (terms (sides (b .rules))) =
+    glue-terms (sides (b .eqs)) (sides (b .rules)) in
     let c : 2 * eqs-of s ≡ count (terms (sides (b .eqs))) =
     omega (arith, h .eqs, count-terms (sides (b .eqs)), length-sides (b .eqs)) in
     let o : others (2 * eqs-of s) (terms (sides-of b)) ≡ terms (sides (b .rules)) =

@@ -22,7 +22,11 @@ sides (e ∷ es) = e .left ∷ e .right ∷ sides es
 abbrev pub sides-of : Book → List Term
 sides-of b = sides (b .eqs) ++ sides (b .rules)
 
--- side i stands from start i up to start i + 1
+-- where side i starts and ends
+abbrev pub Bounds : Layout → ℕ → ℕ → ℕ → Type 0
+Bounds l i a z = (a ≡ getD (l .starts) i 0) × (z ≡ getD (l .starts) (i + 1) 0)
+
+-- each side stands from its start to its end
 pub record Laid (s : List ℕ) (b : Book) (l : Layout) : Type 0 where
   pub signs : l .signs ≡ length (b .parts)
   pub equations : l .equations ≡ length (b .eqs)
@@ -34,13 +38,20 @@ abbrev pub Book-read : List ℕ → Maybe Layout → Type 0
 Book-read s (Some l) = Reads s (book-of s) × Laid s (book-of s) l
 Book-read s None = (b : Book) → Reads s b → ⊥
 
+-- none has more than 4; no two are equal
+abbrev pub Few-parts : List ℕ → Type 0
+Few-parts ps = (f : ℕ) → f < length ps → getD ps f 0 ≤ 4
+
+abbrev pub All-differ : List ℕ → Type 0
+All-differ xs = (i j : ℕ) → i < j → j < length xs → getD xs i 0 ≡ getD xs j 0 → ⊥
+
 -- the numbers at the start are a book's
 pub record Head-fine (s : List ℕ) : Type 0 where
   pub long : body-of s ≤ length s
   pub some-sign : 1 ≤ signs-of s
   pub few-signs : signs-of s ≤ 32
-  pub few-parts : (f : ℕ) → f < length (parts-of s) → getD (parts-of s) f 0 ≤ 4
-  pub differ : (i j : ℕ) → i < j → j < length (ranks-of s) → getD (ranks-of s) i 0 ≡ getD (ranks-of s) j 0 → ⊥
+  pub few-parts : Few-parts (parts-of s)
+  pub differ : All-differ (ranks-of s)
   pub few-eqs : eqs-of s ≤ 64
   pub few-rules : rules-of s ≤ 64
 

@@ -6,7 +6,7 @@ use native.Mathlib.Omega.{arith}
 use lib.ListN.{take, drop}
 use Rattle.books.specs.Reading.{signs-of}
 use Rattle.books.proofs.Heads.{head-of}
-use Rattle.books.proofs.Building.{many-parts, equal-ranks}
+use Rattle.books.proofs.Building.{book-parts, book-ranks}
 use Rattle.books.proofs.book.read_head.Needs as need
 use Rattle.books.proofs.book.read_head.Needs.{then-signs-eq0·by·then-signs-eq0, then-signs-eq0·by·else-signs-eq0·then-signs-gt32}
 use Rattle.books.proofs.book.read_head.Needs.{then-signs-eq0·by·else-signs-eq0·else-signs-gt32·then-words-signs}
@@ -31,11 +31,10 @@ returns-then-not-few-parts c b r =
     let d : 1 + 2 * n - (1 + n) ≡ n = omega arith in
     elim (c .then-not-few-parts .came) [
       | then-not-few-parts·by·then-not-few-parts w ↦
-          (let p = c .few-parts .ensures .no (w .if-not-few-parts .taken) in
-          many-parts s b r _ (ap (λ (k : ℕ). take k (drop 1 s)) e) (p .0) (p .1) (p .2))
+          c .few-parts .ensures .fails (w .if-not-few-parts .taken) (book-parts s b r _ (ap (λ (k : ℕ). take k (drop 1 s)) e))
       | then-not-few-parts·by·else-not-few-parts·then-not-all-differ w ↦
-          (let p = w .all-differ .ensures .no (w .if-not-all-differ .taken) in
-          equal-ranks s b r _ (ap (λ (k : ℕ). take k (drop (1 + n) s)) d) (p .0) (p .1) (p .2) (p .3) (p .4))
+          w .all-differ .ensures .fails (w .if-not-all-differ .taken)
+          (book-ranks s b r _ (ap (λ (k : ℕ). take k (drop (1 + n) s)) d))
     ]
 
 pub returns-then-equations-gt64 : need.returns-then-equations-gt64

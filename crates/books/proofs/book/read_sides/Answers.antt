@@ -33,6 +33,6 @@ loop-i-again c =
 pub returns-else-at-words : need.returns-else-at-words
 returns-else-at-words c =
     let all : c .loop-i .i ≡ c .args .count = omega arith in
+    let At : ℕ → Type 0 = λ k. Sides-at (c .args .parts .now) (c .args .words .now) k (c .args .from) (c .loop-i .at) (c .loop-i .starts) in
     more-words (c .args .parts .now) (c .args .words .now) (c .args .count) (c .args .from) (c .loop-i .at) (c .loop-i .starts)
-    (subst (λ (k : ℕ). Sides-at (c .args .parts .now) (c .args .words .now) k (c .args .from) (c .loop-i .at) (c .loop-i .starts)) all (c .loop-i .inv .0))
-    (c .if-at-words .left)
+    (subst At all (c .loop-i .inv .0)) (c .if-at-words .left)
