@@ -1,1 +1,11 @@
 -- Proofs of the theorems.
+pub mod Choosing
+pub mod Replacing
+pub mod Stepping
+pub mod Signature
+pub mod Ordering
+pub mod Grounding
+pub mod Newman
+pub mod Terminating
+pub mod Comparing
+pub mod Matching
