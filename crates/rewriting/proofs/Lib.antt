@@ -9,3 +9,7 @@ pub mod Newman
 pub mod Terminating
 pub mod Comparing
 pub mod Matching
+pub mod Reducts
+pub mod Heights
+pub mod Cleaning
+pub mod Settling

@@ -3,7 +3,8 @@ ghost use Rattle.rewriting.specs.Theorems.{Heights, Made-one, Order-ends, Orde
 ghost use Rattle.rewriting.specs.Theorems.{Down-ends, Overlaps-tell, Peaks-tell, Settled, Told-by-pairs};
 ghost use Rattle.rewriting.specs.Sums.{Sums-worked};
 
-// Nothing yet.
-pub fn begun() -> u8 {
-    0
+// The path order has no endless way down among terms over a signature.
+pub fn order_ends()
+    ensures { λ _. ⌜ Order-ends ⌝ }
+{
 }
