@@ -13,3 +13,5 @@ pub mod Reducts
 pub mod Heights
 pub mod Cleaning
 pub mod Settling
+pub mod Letters
+pub mod Unifying
