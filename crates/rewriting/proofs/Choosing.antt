@@ -41,7 +41,11 @@ dec-some (some m) n = at (ℕ-discrete m n)
     at (yes e) = yes (ap some e)
     at (no k) = no λ p. k (cc)
 
--- both, or else N
+-- or else N
+pub map-or : {A B N : Type 0} → (A → B) → A ⊎ N → B ⊎ N
+map-or f (inl a) = inl (f a)
+map-or f (inr n) = inr n
+
 pub both-or : {A B C N : Type 0} → (A → B → C) → A ⊎ N → B ⊎ N → C ⊎ N
 both-or f (inl a) (inl b) = inl (f a b)
 both-or f (inl a) (inr n) = inr n
@@ -51,14 +55,17 @@ both-or f (inr n) b = inr n
 abbrev pub Each : {A : Type 0} → (A → Type 0) → List A → Type 0
 Each {A} P xs = (i : ℕ) (x : A) → nth xs i ≡ some x → P x
 
-each-cons : {A : Type 0} (P : A → Type 0) (x : A) (xs : List A) → P x → Each P xs → Each P (x ∷ xs)
+pub each-none : {A : Type 0} (P : A → Type 0) → Each P []
+each-none P i x e = absurd (no-some e)
+
+pub each-cons : {A : Type 0} (P : A → Type 0) (x : A) (xs : List A) → P x → Each P xs → Each P (x ∷ xs)
 each-cons P x xs p ps zero y e = let q : x ≡ y = cc in subst P q p
 each-cons P x xs p ps (suc i) y e = ps i y e
 
 -- each has P, or else N, if that can be told of each
 pub each-or : {A : Type 0} (P : A → Type 0) (N : Type 0) (xs : List A) →
-  ((i : ℕ) (x : A) → nth xs i ≡ some x → P x ⊎ N) → Each P xs ⊎ N
-each-or P N [] h = inl (λ i x e. absurd (no-some e))
+    ((i : ℕ) (x : A) → nth xs i ≡ some x → P x ⊎ N) → Each P xs ⊎ N
+each-or P N [] h = inl (each-none P)
 each-or P N (x ∷ xs) h = both-or (each-cons P x xs) (h 0 x refl) (each-or P N xs (λ i y e. h (suc i) y e))
 
 pub dec-each : {A : Type 0} (P : A → Type 0) → ((x : A) → Dec (P x)) → (xs : List A) → Dec (Each P xs)
@@ -67,6 +74,7 @@ dec-each {A} P d xs = told (each-or P (Each P xs → ⊥) xs (λ i x e. one i x 
     one : (i : ℕ) (x : A) → nth xs i ≡ some x → Dec (P x) → P x ⊎ (Each P xs → ⊥)
     one i x e (yes p) = inl p
     one i x e (no n) = inr (λ h. n (h i x e))
+
     told : Each P xs ⊎ (Each P xs → ⊥) → Dec (Each P xs)
     told (inl h) = yes h
     told (inr n) = no n

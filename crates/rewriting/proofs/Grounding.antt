@@ -14,6 +14,7 @@ use Rattle.rewriting.specs.Theorems.{Order-ends}
 module _ (rk : Rank) (ps : List ℕ) where
   abbrev Fit : Terms → Type 0
   Fit ts = All-over Any-letter ps ts
+
   abbrev All-grounded : Terms → Type 0
   All-grounded none1 = Unit {0}
   All-grounded (and1 t ts) = Grounded rk ps t × All-grounded ts
@@ -30,13 +31,15 @@ module _ (rk : Rank) (ps : List ℕ) where
   abbrev Ready : Term → Type 0
   Ready (letter x) = Unit {0}
   Ready (sign f ts) = All-grounded ts
-    × ((g : ℕ) (us : Terms) → rk g < rk f → Fits ps (sign g us) → All-grounded us → Grounded rk ps (sign g us))
-    × ((us : Terms) → First-greater rk ts us → Fits ps (sign f us) → All-grounded us → Grounded rk ps (sign f us))
+      × ((g : ℕ) (us : Terms) → rk g < rk f → Fits ps (sign g us) → All-grounded us → Grounded rk ps (sign g us))
+      × ((us : Terms) → First-greater rk ts us → Fits ps (sign f us) → All-grounded us → Grounded rk ps (sign f us))
+
   mutual
     less-grounded : {t u : Term} → Greater rk t u → Ready t → Fits ps u → Grounded rk ps u
     less-grounded (by-part p) r f = part-grounded p (r .0) f
     less-grounded (by-sign {g = g} {us = us} l a) r f = r .1 g us l f (all-less-grounded a r (f .1))
     less-grounded (by-order {us = us} o a) r f = r .2 us o f (all-less-grounded a r (f .1))
+
     all-less-grounded : {t : Term} {us : Terms} → All-less rk t us → Ready t → Fit us → All-grounded us
     all-less-grounded none-there r f = tt
     all-less-grounded (this-less g a) r f = (less-grounded g r (f .0), all-less-grounded a r (f .1))
@@ -44,22 +47,24 @@ module _ (rk : Rank) (ps : List ℕ) where
   -- no endless way down among lists of n grounded terms, by the first that differ
   data Lists-ground (n : ℕ) : Terms → Type 0 where
     lists-ground : {ts : Terms} →
-      ((us : Terms) → count us ≡ n → Fit us → All-grounded us → First-greater rk ts us → Lists-ground n us) → Lists-ground n ts
+        ((us : Terms) → count us ≡ n → Fit us → All-grounded us → First-greater rk ts us → Lists-ground n us) → Lists-ground n ts
 
   -- one more term in front: by it, then by the rest
   in-rest : (n : ℕ) (t : Term) →
-    ((u : Term) → Fits ps u → Greater rk t u → (us : Terms) → count us ≡ n → Fit us → All-grounded us → Lists-ground (suc n) (and1 u us)) →
-    {ts : Terms} → Lists-ground n ts → Lists-ground (suc n) (and1 t ts)
+      ((u : Term) → Fits ps u → Greater rk t u → (us : Terms) → count us ≡ n → Fit us → All-grounded us → Lists-ground (suc n) (and1 u us)) →
+      {ts : Terms} → Lists-ground n ts → Lists-ground (suc n) (and1 t ts)
   in-rest n t lesser (lists-ground {ts = ts} h) = lists-ground λ us c f gs l. next l c f gs (λ vs d k ks m. in-rest n t lesser (h vs d k ks m))
     where
       next : {us : Terms} → First-greater rk (and1 t ts) us → count us ≡ suc n → Fit us → All-grounded us →
-        ((vs : Terms) → count vs ≡ n → Fit vs → All-grounded vs → First-greater rk ts vs → Lists-ground (suc n) (and1 t vs)) →
-        Lists-ground (suc n) us
+          ((vs : Terms) → count vs ≡ n → Fit vs → All-grounded vs → First-greater rk ts vs → Lists-ground (suc n) (and1 t vs)) →
+          Lists-ground (suc n) us
       next (here {u = u} {us = us} g) c f gs k = lesser u (f .0) g us (omega arith) (f .1) (gs .1)
       next (further {us = us} l) c f gs k = k us (omega arith) (f .1) (gs .1) l
+
   in-first : (n : ℕ) {t : Term} → Grounded rk ps t → ((us : Terms) → count us ≡ n → Fit us → All-grounded us → Lists-ground n us) →
-    (ts : Terms) → count ts ≡ n → Fit ts → All-grounded ts → Lists-ground (suc n) (and1 t ts)
+      (ts : Terms) → count ts ≡ n → Fit ts → All-grounded ts → Lists-ground (suc n) (and1 t ts)
   in-first n (grounded {t = t} h) all ts c f gs = in-rest n t (λ u fu g us d k ks. in-first n (h u fu g) all us d k ks) (all ts c f gs)
+
   all-lists : (n : ℕ) (ts : Terms) → count ts ≡ n → Fit ts → All-grounded ts → Lists-ground n ts
   all-lists n none1 c f gs = lists-ground λ us d k ks l. elim l [ ]
   all-lists zero (and1 t ts) c f gs = absurd (omega arith)
@@ -70,19 +75,25 @@ module _ (rk : Rank) (ps : List ℕ) where
 
   -- a sign with grounded parts
   by-parts : (f n : ℕ) →
-    ((g : ℕ) (us : Terms) → rk g < rk f → Fits ps (sign g us) → All-grounded us → Grounded rk ps (sign g us)) →
-    {ts : Terms} → Lists-ground n ts → count ts ≡ n → Fits ps (sign f ts) → All-grounded ts → Grounded rk ps (sign f ts)
-  by-parts f n lower (lists-ground {ts = ts} h) c ft gs = grounded λ u fu g. less-grounded g (gs, lower, λ us l k ks.
-    (let d : count us ≡ n = same-count f ts us ft k ∙ c in by-parts f n lower (h us d (k .1) ks l) d k ks)) fu
+      ((g : ℕ) (us : Terms) → rk g < rk f → Fits ps (sign g us) → All-grounded us → Grounded rk ps (sign g us)) →
+      {ts : Terms} → Lists-ground n ts → count ts ≡ n → Fits ps (sign f ts) → All-grounded ts → Grounded rk ps (sign f ts)
+  by-parts f n lower (lists-ground {ts = ts} h) c ft gs = grounded λ u fu g. less-grounded g (
+    gs,
+    lower,
+    λ us l k ks.
+        (let d : count us ≡ n = same-count f ts us ft k ∙ c in by-parts f n lower (h us d (k .1) ks l) d k ks),
+  ) fu
+
   by-rank : {r : ℕ} → Acc _<_ r → (f : ℕ) → rk f ≡ r → (ts : Terms) → Fits ps (sign f ts) → All-grounded ts → Grounded rk ps (sign f ts)
   by-rank (Acc·intro r h) f e ts ft gs =
-    by-parts f (count ts) (λ g us l fu ks. by-rank (h (rk g) (subst (λ (k : ℕ). rk g < k) e l)) g refl us fu ks)
+      by-parts f (count ts) (λ g us l fu ks. by-rank (h (rk g) (subst (λ (k : ℕ). rk g < k) e l)) g refl us fu ks)
       (all-lists (count ts) ts refl (ft .1) gs) refl ft gs
 
   mutual
     ground : (t : Term) → Fits ps t → Grounded rk ps t
     ground (letter x) f = grounded λ u k g. elim g [ ]
     ground (sign f ts) ft = by-rank (Nat·lt-wfRel .wf .apply (rk f)) f refl ts ft (ground-all ts (ft .1))
+
     ground-all : (ts : Terms) → Fit ts → All-grounded ts
     ground-all none1 f = tt
     ground-all (and1 t ts) f = (ground t (f .0), ground-all ts (f .1))

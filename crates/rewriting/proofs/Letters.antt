@@ -24,15 +24,18 @@ mutual
   pub letters : Term → List ℕ
   letters (letter x) = x ∷ []
   letters (sign f ts) = letters-all ts
+
   letters-all : Terms → List ℕ
   letters-all none1 = []
   letters-all (and1 t ts) = letters t ++ letters-all ts
 
 mutual
   unfolding letters letters-all
+
   pub letters-has : {x : ℕ} {t : Term} → In x t → Member x (letters t)
   letters-has is = first
   letters-has (part i) = letters-all-has i
+
   letters-all-has : {x : ℕ} {ts : Terms} → Ins x ts → Member x (letters-all ts)
   letters-all-has (here {ts = ts} i) = member-left (letters-all ts) (letters-has i)
   letters-all-has (there {t = t} i) = member-right (letters t) (letters-all-has i)
@@ -44,27 +47,27 @@ remove x (y ∷ ys) = pick (ℕ-discrete x y) (remove x ys) (y ∷ remove x ys)
 pub remove-keeps : (x : ℕ) {z : ℕ} {ys : List ℕ} → Member z ys → (x ≡ z → ⊥) → Member z (remove x ys)
 unfolding remove
 remove-keeps x {z} (first {xs = ys}) n =
-  pick-has (Member z) (ℕ-discrete x z) (remove x ys) (z ∷ remove x ys) (λ e. absurd (n e)) (λ k. first)
+    pick-has (Member z) (ℕ-discrete x z) (remove x ys) (z ∷ remove x ys) (λ e. absurd (n e)) (λ k. first)
 remove-keeps x {z} (next {y = y} {xs = ys} m) n =
-  let h = remove-keeps x m n in pick-has (Member z) (ℕ-discrete x y) (remove x ys) (y ∷ remove x ys) (λ e. h) (λ k. next h)
+    let h = remove-keeps x m n in pick-has (Member z) (ℕ-discrete x y) (remove x ys) (y ∷ remove x ys) (λ e. h) (λ k. next h)
 
 remove-no-longer : (x : ℕ) (ys : List ℕ) → length (remove x ys) ≤ length ys
 unfolding remove
 remove-no-longer x [] = omega arith
 remove-no-longer x (y ∷ ys) =
-  let h = remove-no-longer x ys in
-  pick-has (λ (zs : List ℕ). length zs ≤ length (y ∷ ys)) (ℕ-discrete x y) (remove x ys) (y ∷ remove x ys)
+    let h = remove-no-longer x ys in
+    pick-has (λ (zs : List ℕ). length zs ≤ length (y ∷ ys)) (ℕ-discrete x y) (remove x ys) (y ∷ remove x ys)
     (λ e. omega arith) (λ k. omega arith)
 
 pub remove-shorter : {x : ℕ} {ys : List ℕ} → Member x ys → length (remove x ys) < length ys
 unfolding remove
 remove-shorter {x} (first {xs = ys}) =
-  let h = remove-no-longer x ys in
-  pick-has (λ (zs : List ℕ). length zs < length (x ∷ ys)) (ℕ-discrete x x) (remove x ys) (x ∷ remove x ys)
+    let h = remove-no-longer x ys in
+    pick-has (λ (zs : List ℕ). length zs < length (x ∷ ys)) (ℕ-discrete x x) (remove x ys) (x ∷ remove x ys)
     (λ e. omega arith) (λ k. absurd (k refl))
 remove-shorter {x} (next {y = y} {xs = ys} m) =
-  let h = remove-shorter m in
-  pick-has (λ (zs : List ℕ). length zs < length (y ∷ ys)) (ℕ-discrete x y) (remove x ys) (y ∷ remove x ys)
+    let h = remove-shorter m in
+    pick-has (λ (zs : List ℕ). length zs < length (y ∷ ys)) (ℕ-discrete x y) (remove x ys) (y ∷ remove x ys)
     (λ e. omega arith) (λ k. omega arith)
 
 pub in-letter : {x y : ℕ} → In x (letter y) → x ≡ y
@@ -73,8 +76,10 @@ in-letter is = refl
 -- whether a letter stands in a term
 in-sign : {x f : ℕ} {ts : Terms} → In x (sign f ts) → Ins x ts
 in-sign (part i) = i
+
 in-none : {x : ℕ} → Ins x none1 → ⊥
 in-none i = elim i [ ]
+
 in-either : {x : ℕ} {t : Term} {ts : Terms} → (In x t → ⊥) → (Ins x ts → ⊥) → Ins x (and1 t ts) → ⊥
 in-either n m (here i) = n i
 in-either n m (there i) = m i
@@ -82,9 +87,11 @@ in-either n m (there i) = m i
 letter-of : (x y : ℕ) → Dec (x ≡ y) → Dec (In x (letter y))
 letter-of x y (yes e) = yes (subst (λ (z : ℕ). In x (letter z)) e is)
 letter-of x y (no n) = no λ i. n (in-letter i)
+
 sign-of : (x f : ℕ) (ts : Terms) → Dec (Ins x ts) → Dec (In x (sign f ts))
 sign-of x f ts (yes i) = yes (part i)
 sign-of x f ts (no n) = no λ i. n (in-sign i)
+
 and-of : (x : ℕ) (t : Term) (ts : Terms) → Dec (In x t) → Dec (Ins x ts) → Dec (Ins x (and1 t ts))
 and-of x t ts (yes i) d = yes (here i)
 and-of x t ts (no n) (yes i) = yes (there i)
@@ -94,6 +101,7 @@ mutual
   pub dec-in : (x : ℕ) (t : Term) → Dec (In x t)
   dec-in x (letter y) = letter-of x y (ℕ-discrete x y)
   dec-in x (sign f ts) = sign-of x f ts (dec-ins x ts)
+
   dec-ins : (x : ℕ) (ts : Terms) → Dec (Ins x ts)
   dec-ins x none1 = no in-none
   dec-ins x (and1 t ts) = and-of x t ts (dec-in x t) (dec-ins x ts)

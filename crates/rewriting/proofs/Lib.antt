@@ -10,8 +10,12 @@ pub mod Terminating
 pub mod Comparing
 pub mod Matching
 pub mod Reducts
-pub mod Heights
+pub mod Height
 pub mod Cleaning
 pub mod Settling
 pub mod Letters
 pub mod Unifying
+pub mod Splitting
+pub mod Peaks
+pub mod Pairs
+pub mod Sums

@@ -13,6 +13,7 @@ abbrev mutual
   find x (letter y) t d = pick (ℕ-discrete x y) t d
   find x (sign f ls) (letter y) d = d
   find x (sign f ls) (sign g ts) d = finds x ls ts d
+
   pub finds : ℕ → Terms → Terms → Term → Term
   finds x none1 ts d = d
   finds x (and1 l ls) none1 d = d
@@ -26,13 +27,16 @@ module _ (s : ℕ → Term) (x : ℕ) where
     find-else : (l d : Term) → d ≡ s x → find x l (put s l) d ≡ s x
     find-else (letter y) d e = pick-has (λ (t : Term). t ≡ s x) (ℕ-discrete x y) (s y) d (λ h. ap s (sym h)) (λ n. e)
     find-else (sign f ls) d e = finds-else ls d e
+
     finds-else : (ls : Terms) (d : Term) → d ≡ s x → finds x ls (puts s ls) d ≡ s x
     finds-else none1 d e = e
     finds-else (and1 l ls) d e = find-else l (finds x ls (puts s ls) d) (finds-else ls d e)
+
   mutual
     find-in : {l : Term} → In x l → (d : Term) → find x l (put s l) d ≡ s x
     find-in is d = pick-yes (ℕ-discrete x x) (s x) d refl
     find-in (part i) d = finds-in i d
+
     finds-in : {ls : Terms} → Ins x ls → (d : Term) → finds x ls (puts s ls) d ≡ s x
     finds-in (here {ts = ls} i) d = find-in i (finds x ls (puts s ls) d)
     finds-in (there {t = l} {ts = ls} i) d = find-else l (finds x ls (puts s ls) d) (finds-in i d)

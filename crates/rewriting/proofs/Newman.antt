@@ -9,7 +9,7 @@ module _ (rs : List Eq) (local : (t u v : Term) → Step rs t u → Step rs t v 
   newman (ends f) stay h = (_, h, stay)
   newman (ends f) (go a as1) stay = (_, stay, go a as1)
   newman {t} {u} {v} (ends f) (go {u = a} s ss) (go {u = b} r rest) =
-    let m : Meet rs a b = local t a b s r in
-    let k : Meet rs u (m .0) = newman (f a s) ss (m .1) in
-    let l : Meet rs (k .0) v = newman (f b r) (trans (m .2) (k .2)) rest in
-    (l .0, trans (k .1) (l .1), l .2)
+      let m : Meet rs a b = local t a b s r in
+      let k : Meet rs u (m .0) = newman (f a s) ss (m .1) in
+      let l : Meet rs (k .0) v = newman (f b r) (trans (m .2) (k .2)) rest in
+      (l .0, trans (k .1) (l .1), l .2)

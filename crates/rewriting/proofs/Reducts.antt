@@ -19,11 +19,13 @@ module _ {A : Type 0} {P : A → Type 0} where
   has-left : {a : A} {ps : List ((b : A) × P b)} (qs : List ((b : A) × P b)) → Has {P = P} a ps → Has {P = P} a (ps ++ qs)
   has-left qs (first e) = first e
   has-left qs (next h) = next (has-left qs h)
+
   has-right : {a : A} (ps : List ((b : A) × P b)) {qs : List ((b : A) × P b)} → Has {P = P} a qs → Has {P = P} a (ps ++ qs)
   has-right [] h = h
   has-right (p ∷ ps) h = next (has-right ps h)
+
   has-map : {B : Type 0} {Q : B → Type 0} (f : A → B) (g : (a : A) → P a → Q (f a)) {a : A} {ps : List ((b : A) × P b)} →
-    Has {P = P} a ps → Has {P = Q} (f a) (map (λ (p : (b : A) × P b). (f (p .0), g (p .0) (p .1))) ps)
+      Has {P = P} a ps → Has {P = Q} (f a) (map (λ (p : (b : A) × P b). (f (p .0), g (p .0) (p .1))) ps)
   has-map f g (first e) = first (ap f e)
   has-map f g (next h) = next (has-map f g h)
 
@@ -35,9 +37,11 @@ module _ (rs : List Eq) where
       u : Term
       u = put (found (r .left) t) (r .right)
   top t r i (no n) = []
+
   tops : (t : Term) (qs : List Eq) → Each (λ (r : Eq). (i : ℕ) × (nth rs i ≡ some r)) qs → List ((u : Term) × Step rs t u)
   tops t [] k = []
   tops t (q ∷ qs) k = top t q (k 0 q refl) (dec-term (put (found (q .left) t) (q .left)) t) ++ tops t qs (λ i r e. k (suc i) r e)
+
   abbrev at-tops : (t : Term) → List ((u : Term) × Step rs t u)
   at-tops t = tops t rs (λ i r e. (i, e))
 
@@ -46,10 +50,11 @@ module _ (rs : List Eq) where
     insides : (t : Term) → List ((u : Term) × Step rs t u)
     insides (letter x) = []
     insides (sign f ts) = map (λ (p : (us : Terms) × Steps1 rs ts us). (sign f (p .0), below (p .1))) (insides-all ts)
+
     insides-all : (ts : Terms) → List ((us : Terms) × Steps1 rs ts us)
     insides-all none1 = []
     insides-all (and1 t ts) = map (λ (p : (u : Term) × Step rs t u). (and1 (p .0) ts, in-first (p .1))) (at-tops t ++ insides t)
-      ++ map (λ (p : (us : Terms) × Steps1 rs ts us). (and1 t (p .0), in-rest (p .1))) (insides-all ts)
+        ++ map (λ (p : (us : Terms) × Steps1 rs ts us). (and1 t (p .0), in-rest (p .1))) (insides-all ts)
 
   pub reducts : (t : Term) → List ((u : Term) × Step rs t u)
   reducts t = at-tops t ++ insides t
@@ -57,24 +62,28 @@ module _ (rs : List Eq) where
   -- each step is among them, if no rule brings in letters
   module _ (keep : Each (λ (r : Eq). (x : ℕ) → In x (r .right) → In x (r .left)) rs) where
     has-top : (s : ℕ → Term) (r : Eq) (i : (i : ℕ) × (nth rs i ≡ some r))
-      (d : Dec (put (found (r .left) (put s (r .left))) (r .left) ≡ put s (r .left))) → Has (put s (r .right)) (top (put s (r .left)) r i d)
+        (d : Dec (put (found (r .left) (put s (r .left))) (r .left) ≡ put s (r .left))) → Has (put s (r .right)) (top (put s (r .left)) r i d)
     unfolding top
     has-top s r i (yes e) = first (found-put s (r .left) (r .right) (keep (i .0) r (i .1)))
     has-top s r i (no n) = absurd (n (found-put s (r .left) (r .left) (λ x j. j)))
+
     has-tops : (s : ℕ → Term) (r : Eq) (qs : List Eq) (k : Each (λ (r : Eq). (i : ℕ) × (nth rs i ≡ some r)) qs) (i : ℕ) →
-      nth qs i ≡ some r → Has (put s (r .right)) (tops (put s (r .left)) qs k)
+        nth qs i ≡ some r → Has (put s (r .right)) (tops (put s (r .left)) qs k)
     unfolding tops
     has-tops s r [] k i e = absurd (no-some e)
     has-tops s r (q ∷ qs) k zero e =
-      let d : q ≡ r = cc in
-      subst (λ (p : Eq). Has (put s (p .right)) (tops (put s (p .left)) (q ∷ qs) k)) d
+        let d : q ≡ r = cc in
+        subst (λ (p : Eq). Has (put s (p .right)) (tops (put s (p .left)) (q ∷ qs) k)) d
         (has-left _ (has-top s q (k 0 q refl) (dec-term (put (found (q .left) (put s (q .left))) (q .left)) (put s (q .left)))))
     has-tops s r (q ∷ qs) k (suc i) e = has-right _ (has-tops s r qs (λ j p d. k (suc j) p d) i e)
+
     mutual
       unfolding reducts
+
       pub has-step : {t u : Term} → Step rs t u → Has u (reducts t)
       has-step (at-top i r s e) = has-left _ (has-tops s r rs (λ j q d. (j, d)) i e)
       has-step (below {f = f} {ts = ts} h) = has-right (at-tops (sign f ts)) (has-map (sign f) (λ us k. below k) (has-steps h))
+
       has-steps : {ts us : Terms} → Steps1 rs ts us → Has us (insides-all ts)
       has-steps (in-first {ts = ts} h) = has-left _ (has-map (λ u. and1 u ts) (λ u k. in-first k) (has-step h))
       has-steps (in-rest {t = t} h) = has-right _ (has-map (and1 t) (λ us k. in-rest k) (has-steps h))
@@ -88,5 +97,6 @@ module _ (rs : List Eq) where
 
     pub comes-to-done : {t : Term} → Ends rs t → (n : Term) × Steps rs t n × Done rs n
     comes-to-done {t} (ends f) = elim (step-or-done t) [
-        inl p ↦ let n = comes-to-done (f (p .0) (p .1)) in (n .0, go (p .1) (n .1), n .2)
-      | inr d ↦ (t, stay, d) ]
+      | inl p ↦ let n = comes-to-done (f (p .0) (p .1)) in (n .0, go (p .1) (n .1), n .2)
+      | inr d ↦ (t, stay, d)
+    ]

@@ -23,6 +23,7 @@ mutual
   pub step-put : {rs : List Eq} {t u : Term} → (k : ℕ → Term) → Step rs t u → Step rs (put k t) (put k u)
   step-put k (at-top i r s e) = rw (put-put k s (r .left), put-put k s (r .right)) (at-top i r (λ x. put k (s x)) e)
   step-put k (below h) = below (steps1-put k h)
+
   steps1-put : {rs : List Eq} {ts us : Terms} → (k : ℕ → Term) → Steps1 rs ts us → Steps1 rs (puts k ts) (puts k us)
   steps1-put k (in-first h) = in-first (step-put k h)
   steps1-put k (in-rest h) = in-rest (steps1-put k h)
@@ -59,7 +60,7 @@ steps-rest t stay-in = stay-in
 steps-rest t (go-in h hs) = go-in (in-rest h) (steps-rest t hs)
 
 pub steps-both : {rs : List Eq} {t u : Term} {ts us : Terms} →
-  Steps rs t u → Steps-in rs ts us → Steps-in rs (and1 t ts) (and1 u us)
+    Steps rs t u → Steps-in rs ts us → Steps-in rs (and1 t ts) (and1 u us)
 steps-both {u = u} {ts = ts} h hs = trans-in (steps-first ts h) (steps-rest u hs)
 
 -- lists of terms that come together
@@ -77,27 +78,29 @@ mutual
   pub steps-under : {rs : List Eq} (s r : ℕ → Term) → ((x : ℕ) → Steps rs (s x) (r x)) → (t : Term) → Steps rs (put s t) (put r t)
   steps-under s r h (letter x) = h x
   steps-under s r h (sign f ts) = steps-below f (steps-unders s r h ts)
+
   pub steps-unders : {rs : List Eq} (s r : ℕ → Term) → ((x : ℕ) → Steps rs (s x) (r x)) →
-    (ts : Terms) → Steps-in rs (puts s ts) (puts r ts)
+      (ts : Terms) → Steps-in rs (puts s ts) (puts r ts)
   steps-unders s r h none1 = stay-in
   steps-unders s r h (and1 t ts) = steps-both (steps-under s r h t) (steps-unders s r h ts)
 
 -- at a part
 mutual
   pub fill-step : {rs : List Eq} {n t : Term} (p : Part n t) (s : ℕ → Term) (w : Term) →
-    Step rs (put s n) w → Step rs (put s t) (fill p s w)
+      Step rs (put s n) w → Step rs (put s t) (fill p s w)
   fill-step itself s w h = h
   fill-step (in-part p) s w h = below (fills-step p s w h)
+
   fills-step : {rs : List Eq} {n : Term} {ts : Terms} (p : Parts n ts) (s : ℕ → Term) (w : Term) →
-    Step rs (put s n) w → Steps1 rs (puts s ts) (fills p s w)
+      Step rs (put s n) w → Steps1 rs (puts s ts) (fills p s w)
   fills-step (in-this p) s w h = in-first (fill-step p s w h)
   fills-step (in-later p) s w h = in-rest (fills-step p s w h)
 
 -- by a rule whose letters are renamed
 pub renamed-step : {rs : List Eq} (s : ℕ → Term) (j : ℕ) (q : Eq) → nth rs j ≡ some q →
-  Step rs (put s (renamed (q .left))) (put s (renamed (q .right)))
+    Step rs (put s (renamed (q .left))) (put s (renamed (q .right)))
 renamed-step {rs} s j q e = rw (put-put s (λ x. letter (x + 16)) (q .left), put-put s (λ x. letter (x + 16)) (q .right))
-  (at-top j q (λ x. s (x + 16)) e)
+    (at-top j q (λ x. s (x + 16)) e)
 
 -- a rule used at the top, its two ends told by equations
 pub record Top (rs : List Eq) (t u : Term) : Type 0 where
@@ -122,9 +125,9 @@ pub data From-sign (rs : List Eq) (f : ℕ) (ts : Terms) : Term → Type 0 where
 pub from-sign : {rs : List Eq} {w v : Term} → Step rs w v → (f : ℕ) (ts : Terms) → w ≡ sign f ts → From-sign rs f ts v
 from-sign {rs} (at-top i r s e) f ts h = by-top (subst (λ (w : Term). Top rs w (put s (r .right))) h (top-of i r s e))
 from-sign {rs} (below {f = g} {ts = as1} {us = us} k) f ts h =
-  let e : as1 ≡ ts = cc in
-  let d : f ≡ g = cc in
-  subst (λ (n : ℕ). From-sign rs f ts (sign n us)) d (by-part (subst (λ (vs : Terms). Steps1 rs vs us) e k))
+    let e : as1 ≡ ts = cc in
+    let d : f ≡ g = cc in
+    subst (λ (n : ℕ). From-sign rs f ts (sign n us)) d (by-part (subst (λ (vs : Terms). Steps1 rs vs us) e k))
 
 -- a step from a letter is at the top
 pub from-letter : {rs : List Eq} {w v : Term} → Step rs w v → (x : ℕ) → w ≡ letter x → Top rs w v

@@ -29,8 +29,9 @@ module _ (rk : Rank) (ps : List ℕ) (rs : List Eq) (fall : Falling rk ps rs) wh
   mutual
     pub step-fits : {t u : Term} → Step rs t u → Fits ps t → Fits ps u
     step-fits (at-top i r s e) f = over-put ps Any-letter Any-letter s (r .right) (fall i r e .1)
-      (λ x j. put-over ps Any-letter s (falling-letters i r e x j) f)
+        (λ x j. put-over ps Any-letter s (falling-letters i r e x j) f)
     step-fits (below h) f = (f .0 ∙ ap some (steps1-count h), steps1-fit h (f .1))
+
     steps1-fit : {ts us : Terms} → Steps1 rs ts us → All-over Any-letter ps ts → All-over Any-letter ps us
     steps1-fit (in-first h) f = (step-fits h (f .0), f .1)
     steps1-fit (in-rest h) f = (f .0, steps1-fit h (f .1))
@@ -41,7 +42,7 @@ module _ (rk : Rank) (ps : List ℕ) (rs : List Eq) (fall : Falling rk ps rs) wh
 
   grounded-ends : {t : Term} → Grounded rk ps t → Fits ps t → Ends rs t
   grounded-ends (grounded h) f =
-    ends λ u k. grounded-ends (h u (step-fits k f) (step-down rk rs (λ i r e. fall i r e .0) k)) (step-fits k f)
+      ends λ u k. grounded-ends (h u (step-fits k f) (step-down rk rs (λ i r e. fall i r e .0) k)) (step-fits k f)
 
   pub falling-ends : (t : Term) → Fits ps t → Ends rs t
   falling-ends t f = grounded-ends (order-ends rk ps t f) f

@@ -19,9 +19,10 @@ module _ {A : Type 0} {P : A → Type 0} where
   abbrev greatest : List ((b : A) × P b) → ((b : A) → P b → ℕ) → ℕ
   greatest [] m = 0
   greatest (p ∷ ps) m = max (m (p .0) (p .1)) (greatest ps m)
+
   has-greatest : {a : A} {ps : List ((b : A) × P b)} → Has {P = P} a ps → (m : (b : A) → P b → ℕ) → (q : P a) × (m a q ≤ greatest ps m)
   has-greatest (first {p = p} {ps = ps} e) m =
-    subst (λ (b : A). (q : P b) × (m b q ≤ max (m (p .0) (p .1)) (greatest ps m))) e (p .1, omega arith)
+      subst (λ (b : A). (q : P b) × (m b q ≤ max (m (p .0) (p .1)) (greatest ps m))) e (p .1, omega arith)
   has-greatest (next h) m = let (q, l) = has-greatest h m in (q, omega arith)
 
 module _ (rs : List Eq) where
@@ -30,16 +31,17 @@ module _ (rs : List Eq) where
 
   -- that steps end is known in one way only, so the height is of the term
   ends-by : {t : Term} (b : Ends rs t) (h : (u : Term) → Step rs t u → Ends rs u) →
-    ((u : Term) (p : Step rs t u) (c : Ends rs u) → c ≡ h u p) → b ≡ ends h
+      ((u : Term) (p : Step rs t u) (c : Ends rs u) → c ≡ h u p) → b ≡ ends h
   ends-by (ends k) h each = ap ends (fun-ext (λ u. fun-ext (λ p. each u p (k u p))))
+
   ends-one : {t : Term} (a b : Ends rs t) → b ≡ a
   ends-one (ends h) b = ends-by b h (λ u p c. ends-one (h u p) c)
 
   height-less : Each (λ (r : Eq). (x : ℕ) → In x (r .right) → In x (r .left)) rs →
-    {t u : Term} (a : Ends rs t) (b : Ends rs u) → Step rs t u → height-of b < height-of a
+      {t u : Term} (a : Ends rs t) (b : Ends rs u) → Step rs t u → height-of b < height-of a
   unfolding height-of
   height-less keep {u = u} (ends {t = t} h) b p =
-    let (q, l) = has-greatest (has-step rs keep p) (λ u p. height-of (h u p)) in rw (ends-one (h u q) b) (omega arith)
+      let (q, l) = has-greatest (has-step rs keep p) (λ u p. height-of (h u p)) in rw (ends-one (h u q) b) (omega arith)
 
 -- a total function: 0 unless the rules go down and the term is over the signature
 module _ (rk : Rank) (ps : List ℕ) (rs : List Eq) (t : Term) where
@@ -56,19 +58,19 @@ module _ (rk : Rank) (ps : List ℕ) (rs : List Eq) (t : Term) where
 
 dec-falling : (rk : Rank) (ps : List ℕ) (rs : List Eq) → Dec (Falling rk ps rs)
 dec-falling rk ps rs = dec-each (λ (r : Eq). Greater rk (r .left) (r .right) × Fits ps (r .right))
-  (λ r. dec-both (dec-greater rk (r .left) (r .right)) (dec-fits ps (r .right))) rs
+    (λ r. dec-both (dec-greater rk (r .left) (r .right)) (dec-fits ps (r .right))) rs
 
 pub height : Book → Term → ℕ
 height b t = let rk = rank (b .ranks) in
-  height-if rk (b .parts) (b .rules) t (dec-falling rk (b .parts) (b .rules)) (dec-fits (b .parts) t)
+    height-if rk (b .parts) (b .rules) t (dec-falling rk (b .parts) (b .rules)) (dec-fits (b .parts) t)
 
 pub height-falls : Falls height
 unfolding height
 height-falls b fine down t u f h =
-  let rk = rank (b .ranks) in
-  let ps = b .parts in
-  let rs = b .rules in
-  let fall : Falling rk ps rs = falling b fine down in
-  let (e, i) = height-is rk ps rs t (dec-falling rk ps rs) (dec-fits ps t) fall f in
-  let (d, j) = height-is rk ps rs u (dec-falling rk ps rs) (dec-fits ps u) fall (step-fits rk ps rs fall h f) in
-  rw (i, j) (height-less rs (falling-letters rk ps rs fall) e d h)
+    let rk = rank (b .ranks) in
+    let ps = b .parts in
+    let rs = b .rules in
+    let fall : Falling rk ps rs = falling b fine down in
+    let (e, i) = height-is rk ps rs t (dec-falling rk ps rs) (dec-fits ps t) fall f in
+    let (d, j) = height-is rk ps rs u (dec-falling rk ps rs) (dec-fits ps u) fall (step-fits rk ps rs fall h f) in
+    rw (i, j) (height-less rs (falling-letters rk ps rs fall) e d h)
