@@ -1,6 +1,5 @@
 -- Terms are told apart, and told greater or not.
 use mathlib.Core.Path.{_≡_, refl, sym, ap, subst}
-use mathlib.Core.List.{List}
 use Prim.Native.Nat.{ℕ, _<_}
 use native.Mathlib.Omega.{arith}
 use native.Mathlib.Decide.{ℕ-discrete, decLt}
@@ -103,7 +102,8 @@ module _ (rk : Rank) where
   dec-sign (no n) (no m) l e o = no (sign-cases n (λ l h. m h) (λ e o h. m h))
 
   -- a sign with parts against a term, told by what is told of its parts
-  module _ (f : ℕ) (ts : Terms) (some? : (u : Term) → Dec (Some-at-least rk ts u)) (first? : (us : Terms) → Dec (First-greater rk ts us)) where
+  module _ (f : ℕ) (ts : Terms) (some? : (u : Term) → Dec (Some-at-least rk ts u))
+      (first? : (us : Terms) → Dec (First-greater rk ts us)) where
     mutual
       sign-greater : (u : Term) → Dec (Greater rk (sign f ts) u)
       sign-greater (letter x) = dec-letter (some? (letter x))

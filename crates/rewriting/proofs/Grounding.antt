@@ -1,12 +1,11 @@
 -- No endless way down in the path order: by the parts, then by the sign's rank, then by the lists of parts.
-use mathlib.Core.Path.{_≡_, refl, sym, _∙_, subst}
+use mathlib.Core.Path.{_≡_, refl, _∙_, subst}
 use mathlib.Core.List.{List}
-use mathlib.Core.Option.{some}
 use mathlib.Core.WellFounded.{Acc, Acc·intro}
 use Prim.Native.Nat.{ℕ, zero, suc, _<_}
 use lib.WfN.{Nat·lt-wfRel}
 use native.Mathlib.Omega.{arith}
-use Rattle.rewriting.specs.Terms.{nth, Term, letter, sign, Terms, none1, and1, count, All-over, Any-letter, Fits}
+use Rattle.rewriting.specs.Terms.{Term, letter, sign, Terms, none1, and1, count, All-over, Any-letter, Fits}
 use Rattle.rewriting.specs.Order.{Rank, Greater, by-part, by-sign, by-order, Some-at-least, this-is, this-more, later, Grounded, grounded}
 use Rattle.rewriting.specs.Order.{All-less, none-there, this-less, First-greater, here, further}
 use Rattle.rewriting.specs.Theorems.{Order-ends}
@@ -50,10 +49,13 @@ module _ (rk : Rank) (ps : List ℕ) where
         ((us : Terms) → count us ≡ n → Fit us → All-grounded us → First-greater rk ts us → Lists-ground n us) → Lists-ground n ts
 
   -- one more term in front: by it, then by the rest
-  in-rest : (n : ℕ) (t : Term) →
-      ((u : Term) → Fits ps u → Greater rk t u → (us : Terms) → count us ≡ n → Fit us → All-grounded us → Lists-ground (suc n) (and1 u us)) →
+  abbrev Front-ground : ℕ → Term → Type 0
+  Front-ground n t = (ts : Terms) → count ts ≡ n → Fit ts → All-grounded ts → Lists-ground (suc n) (and1 t ts)
+
+  in-rest : (n : ℕ) (t : Term) → ((u : Term) → Fits ps u → Greater rk t u → Front-ground n u) →
       {ts : Terms} → Lists-ground n ts → Lists-ground (suc n) (and1 t ts)
-  in-rest n t lesser (lists-ground {ts = ts} h) = lists-ground λ us c f gs l. next l c f gs (λ vs d k ks m. in-rest n t lesser (h vs d k ks m))
+  in-rest n t lesser (lists-ground {ts = ts} h) =
+      lists-ground λ us c f gs l. next l c f gs (λ vs d k ks m. in-rest n t lesser (h vs d k ks m))
     where
       next : {us : Terms} → First-greater rk (and1 t ts) us → count us ≡ suc n → Fit us → All-grounded us →
           ((vs : Terms) → count vs ≡ n → Fit vs → All-grounded vs → First-greater rk ts vs → Lists-ground (suc n) (and1 t vs)) →

@@ -3,15 +3,16 @@ use mathlib.Core.Path.{_≡_, refl, ap, subst, fun-ext}
 use mathlib.Core.List.{List, [], _∷_}
 use Prim.Native.Nat.{ℕ, suc, _<_, _≤_, max}
 use native.Mathlib.Omega.{arith}
-use Rattle.rewriting.specs.Terms.{Term, In, Fits}
+use Rattle.rewriting.specs.Terms.{Term, Fits}
 use Rattle.rewriting.specs.Rules.{Eq, Step, Ends, ends}
 use Rattle.rewriting.specs.Order.{Rank, rank, Greater}
 use Rattle.rewriting.specs.Books.{Book}
 use Rattle.rewriting.specs.Theorems.{Falls}
-use Rattle.rewriting.proofs.Choosing.{dec-both, dec-each, Each}
+use Rattle.rewriting.proofs.Choosing.{dec-both, dec-each}
+use Rattle.rewriting.proofs.Stepping.{No-new-letters}
 use Rattle.rewriting.proofs.Signature.{dec-fits}
 use Rattle.rewriting.proofs.Comparing.{dec-greater}
-use Rattle.rewriting.proofs.Terminating.{Falling, falling, falling-letters, step-fits, falling-ends}
+use Rattle.rewriting.proofs.Terminating.{Falling, falling, down-letters, step-keeps, falling-ends}
 use Rattle.rewriting.proofs.Reducts.{Has, first, next, reducts, has-step}
 
 -- the greatest of the numbers of a list
@@ -37,7 +38,7 @@ module _ (rs : List Eq) where
   ends-one : {t : Term} (a b : Ends rs t) → b ≡ a
   ends-one (ends h) b = ends-by b h (λ u p c. ends-one (h u p) c)
 
-  height-less : Each (λ (r : Eq). (x : ℕ) → In x (r .right) → In x (r .left)) rs →
+  height-less : No-new-letters rs →
       {t u : Term} (a : Ends rs t) (b : Ends rs u) → Step rs t u → height-of b < height-of a
   unfolding height-of
   height-less keep {u = u} (ends {t = t} h) b p =
@@ -50,7 +51,8 @@ module _ (rk : Rank) (ps : List ℕ) (rs : List Eq) (t : Term) where
   height-if (yes d) (no n) = 0
   height-if (no n) f = 0
 
-  height-is : (x : Dec (Falling rk ps rs)) (y : Dec (Fits ps t)) → Falling rk ps rs → Fits ps t → (e : Ends rs t) × (height-if x y ≡ height-of rs e)
+  height-is : (x : Dec (Falling rk ps rs)) (y : Dec (Fits ps t)) → Falling rk ps rs → Fits ps t →
+      (e : Ends rs t) × (height-if x y ≡ height-of rs e)
   unfolding height-if
   height-is (yes d) (yes f) fall fit = (falling-ends rk ps rs d t f, refl)
   height-is (yes d) (no n) fall fit = absurd (n fit)
@@ -72,5 +74,5 @@ height-falls b fine down t u f h =
     let rs = b .rules in
     let fall : Falling rk ps rs = falling b fine down in
     let (e, i) = height-is rk ps rs t (dec-falling rk ps rs) (dec-fits ps t) fall f in
-    let (d, j) = height-is rk ps rs u (dec-falling rk ps rs) (dec-fits ps u) fall (step-fits rk ps rs fall h f) in
-    rw (i, j) (height-less rs (falling-letters rk ps rs fall) e d h)
+    let (d, j) = height-is rk ps rs u (dec-falling rk ps rs) (dec-fits ps u) fall (step-keeps b fine down h f) in
+    rw (i, j) (height-less rs (down-letters rk rs down) e d h)

@@ -1,5 +1,5 @@
 -- Matching: what was put for the letters of a term is found again in the result.
-use mathlib.Core.Path.{_≡_, refl, sym, _∙_, ap, ap₂}
+use mathlib.Core.Path.{_≡_, refl, sym, ap}
 use Prim.Native.Nat.{ℕ}
 use native.Mathlib.Decide.{ℕ-discrete}
 use Rattle.rewriting.specs.Terms.{Term, letter, sign, Terms, none1, and1, put, puts, In, is, part, Ins, here, there}

@@ -1,7 +1,7 @@
 -- The path order is kept by replacing letters and in places, so steps of rules that go down go down.
-use mathlib.Core.Path.{_≡_, refl, sym, ap, subst}
+use mathlib.Core.Path.{_≡_, refl, ap}
 use mathlib.Core.List.{List}
-use Prim.Native.Nat.{ℕ, _<_}
+use Prim.Native.Nat.{ℕ}
 use Rattle.rewriting.specs.Terms.{Term, letter, sign, Terms, none1, and1, put, puts, In, part, Ins, here, there}
 use Rattle.rewriting.specs.Rules.{Eq, Step, at-top, below, Steps1, in-first, in-rest, Part, itself, in-part, Parts, in-this, in-later}
 use Rattle.rewriting.specs.Order.{Rank, Greater, by-part, by-sign, by-order, Some-at-least, this-is, this-more, later, All-down}

@@ -1,21 +1,21 @@
 -- One end is told by finitely many pairs: for each two rules and each part, the results with the least replacement.
-use mathlib.Core.Path.{_≡_, sym, _∙_, subst}
+use mathlib.Core.Path.{_≡_, subst}
 use mathlib.Core.Logic.{_⊎_, inl, inr}
-use mathlib.Core.List.{List}
 use mathlib.Core.Option.{some}
 use Prim.Native.Nat.{ℕ, _+_}
 use Rattle.rewriting.specs.Terms.{nth, Term, letter, sign, Terms, none1, and1, put, Small-letter, Any-letter, Fits}
-use Rattle.rewriting.specs.Rules.{Eq, Step, at-top, Steps, go, Meet, Done, renamed}
+use Rattle.rewriting.specs.Rules.{Eq, Step, at-top, Steps, go, Meet, renamed}
 use Rattle.rewriting.specs.Rules.{Part, itself, in-part, Parts, in-this, in-later}
-use Rattle.rewriting.specs.Order.{Rank, rank, All-down}
+use Rattle.rewriting.specs.Order.{rank, All-down}
 use Rattle.rewriting.specs.Overlaps.{fill, Least}
 use Rattle.rewriting.specs.Books.{Book, Fine, One-end}
 use Rattle.rewriting.specs.Theorems.{Told-by-pairs}
 use Rattle.rewriting.proofs.Choosing.{map-or, both-or, Each, each-or}
+use Rattle.rewriting.proofs.Stepping.{Comes}
 use Rattle.rewriting.proofs.Signature.{over-put, over-fits, over-part}
 use Rattle.rewriting.proofs.Comparing.{dec-term}
-use Rattle.rewriting.proofs.Terminating.{Falling, falling, falling-letters, falling-ends, step-fits}
-use Rattle.rewriting.proofs.Reducts.{comes-to-done}
+use Rattle.rewriting.proofs.Terminating.{step-keeps}
+use Rattle.rewriting.proofs.Reducts.{comes}
 use Rattle.rewriting.proofs.Settling.{one-done}
 use Rattle.rewriting.proofs.Unifying.{Never, made-one, least-fits}
 use Rattle.rewriting.proofs.Peaks.{Results-meet, results-through, overlap-step, overlaps-tell}
@@ -30,7 +30,8 @@ by-sign f ts Q q h n itself = q
 by-sign f ts Q q h n (in-part p) = h n p
 
 by-and : (t : Term) (ts : Terms) (Q : (n : Term) → Parts n (and1 t ts) → Type 0) →
-    ((n : Term) (p : Part n t) → Q n (in-this p)) → ((n : Term) (p : Parts n ts) → Q n (in-later p)) → (n : Term) (p : Parts n (and1 t ts)) → Q n p
+    ((n : Term) (p : Part n t) → Q n (in-this p)) → ((n : Term) (p : Parts n ts) → Q n (in-later p)) →
+    (n : Term) (p : Parts n (and1 t ts)) → Q n p
 by-and t ts Q q h n (in-this p) = q n p
 by-and t ts Q q h n (in-later p) = h n p
 
@@ -48,22 +49,15 @@ mutual
       ((n : Term) (p : Parts n ts) → Q n p ⊎ N) → ((n : Term) (p : Parts n ts) → Q n p) ⊎ N
   all-parts-or none1 Q N h = inl (by-none Q)
   all-parts-or (and1 t ts) Q N h = both-or (by-and t ts Q)
-      (parts-or t (λ n p. Q n (in-this p)) N (λ n p. h n (in-this p))) (all-parts-or ts (λ n p. Q n (in-later p)) N (λ n p. h n (in-later p)))
+      (parts-or t (λ n p. Q n (in-this p)) N (λ n p. h n (in-this p)))
+      (all-parts-or ts (λ n p. Q n (in-later p)) N (λ n p. h n (in-later p)))
 
 module _ (b : Book) (fine : Fine b) (down : All-down (rank (b .ranks)) (b .rules)) where
-  fall : Falling (rank (b .ranks)) (b .parts) (b .rules)
-  fall = falling b fine down
-
-  comes : (t u : Term) → Fits (b .parts) t → Step (b .rules) t u → (n : Term) × Steps (b .rules) u n × Done (b .rules) n
-  comes t u f h = comes-to-done (b .rules) (falling-letters (rank (b .ranks)) (b .parts) (b .rules) fall)
-      (falling-ends (rank (b .ranks)) (b .parts) (b .rules) fall u (step-fits (rank (b .ranks)) (b .parts) (b .rules) fall h f))
-
   -- what two steps lead to comes together, or there is more than one end
   steps-told : (t u v : Term) → Fits (b .parts) t → Step (b .rules) t u → Step (b .rules) t v → Meet (b .rules) u v ⊎ (One-end b → ⊥)
-  steps-told t u v f h k = told (comes t u f h) (comes t v f k)
+  steps-told t u v f h k = told (comes b fine down u (step-keeps b fine down h f)) (comes b fine down v (step-keeps b fine down k f))
     where
-      told : ((n : Term) × Steps (b .rules) u n × Done (b .rules) n) → ((n : Term) × Steps (b .rules) v n × Done (b .rules) n) →
-          Meet (b .rules) u v ⊎ (One-end b → ⊥)
+      told : Comes (b .rules) u → Comes (b .rules) v → Meet (b .rules) u v ⊎ (One-end b → ⊥)
       told m n = elim (dec-term (m .0) (n .0)) [
         | yes e ↦ inl (n .0, subst (Steps (b .rules) u) e (m .1), n .1)
         | no differ ↦ inr (λ one. differ (one-done b one t (m .0) (n .0) f (go h (m .1)) (m .2) (go k (n .1)) (n .2)))
@@ -100,5 +94,6 @@ module _ (b : Book) (fine : Fine b) (down : All-down (rank (b .ranks)) (b .rules
       (λ j q is-q. parts-or (p .left) (Overlap p q) (One-end b → ⊥) (overlap-told i p is-p j q is-q)))
 
 pub told-by-pairs : Told-by-pairs
-told-by-pairs b fine down = map-or (λ all. overlaps-tell b fine down
-    (λ t k. all (k .i) (k .p) (k .is-p) (k .j) (k .q) (k .is-q) (sign (k .f) (k .vs)) (k .stands) (k .s) (k .meet))) (pairs-told b fine down)
+told-by-pairs b fine down = map-or (λ all. overlaps-tell b fine down (λ t k.
+    all (k .i) (k .p) (k .is-p) (k .j) (k .q) (k .is-q) (sign (k .f) (k .vs)) (k .stands) (k .s) (k .meet)))
+    (pairs-told b fine down)

@@ -6,13 +6,12 @@ use Prim.Native.Nat.{ℕ, _+_, _-_, _<_}
 use native.Mathlib.Omega.{arith}
 use native.Mathlib.Decide.{decLt}
 use Rattle.rewriting.specs.Terms.{nth, Term, letter, sign, Terms, and1, put, In, Small-letter}
-use Rattle.rewriting.specs.Rules.{Eq, Step, at-top, below, Steps1, in-first, in-rest, Steps, stay, go, Meet, Part, renamed}
+use Rattle.rewriting.specs.Rules.{Eq, Step, at-top, below, Steps1, in-first, in-rest, stay, go, Meet, Part, renamed}
 use Rattle.rewriting.specs.Overlaps.{fill, Least, Peak, first-result, second-result, Overlaps-meet}
-use Rattle.rewriting.specs.Books.{Book, Fine}
 use Rattle.rewriting.specs.Theorems.{Overlaps-tell, Peaks-tell}
 use Rattle.rewriting.proofs.Choosing.{pick, pick-yes, pick-no, Each}
-use Rattle.rewriting.proofs.Replacing.{put-put, put-agree, put-through, in-place, fill-agree, put-fill}
-use Rattle.rewriting.proofs.Stepping.{trans, meet-put, meet-swap, steps-under, Steps-in, stay-in, go-in, steps-first, steps-rest}
+use Rattle.rewriting.proofs.Replacing.{put-agree, put-through, in-place, fill-agree, put-fill}
+use Rattle.rewriting.proofs.Stepping.{trans, meet-put, meet-swap, steps-under, stay-in, go-in, steps-first, steps-rest}
 use Rattle.rewriting.proofs.Stepping.{Meets, meet-below, fill-step, renamed-step, Top, From-sign, by-top, by-part, from-sign}
 use Rattle.rewriting.proofs.Signature.{over-letters}
 use Rattle.rewriting.proofs.Newman.{newman}
@@ -92,7 +91,8 @@ module _ (rs : List Eq) (small : Each (λ (r : Eq). Small (r .left) × Small (r 
   at-overlap : (i : ℕ) (p : Eq) (s : ℕ → Term) → nth rs i ≡ some p → {f : ℕ} {vs : Terms} {w : Term} (place : Part (sign f vs) (p .left)) →
       Top rs (put s (sign f vs)) w → Meet rs (put s (p .right)) (fill place s w)
   at-overlap i p s is-p {f} {vs} {w} place a = subst₂ (Meet rs) (merge-put s (a .s) (p .right) (small i p is-p .1)) filled
-      (results-through p (a .r) place m (l .s) m (l .most m one) (overlaps (put (l .s) (p .left)) (peak-of i p is-p (a .i) (a .r) (a .has) f vs place l)))
+      (results-through p (a .r) place m (l .s) m (l .most m one)
+      (overlaps (put (l .s) (p .left)) (peak-of i p is-p (a .i) (a .r) (a .has) f vs place l)))
     where
       m : ℕ → Term
       m = merge s (a .s)
@@ -116,8 +116,8 @@ module _ (rs : List Eq) (small : Each (λ (r : Eq). Small (r .left) × Small (r 
 
   in-parts : (f : ℕ) (ts us : Terms) (v : Term) → Steps1 rs ts us → From-sign rs f ts v →
       ((vs : Terms) → Steps1 rs ts vs → Meets rs us vs) → Meet rs (sign f us) v
-  in-parts f ts us v h (by-top a) k = rw (a .to)
-      (meet-swap (at-split (a .i) (a .r) (a .s) (sign f us) (a .has) (split (a .r .left) (a .s) (sign f ts) (sign f us) (below h) (a .from))))
+  in-parts f ts us v h (by-top a) k = rw (a .to) (meet-swap
+      (at-split (a .i) (a .r) (a .s) (sign f us) (a .has) (split (a .r .left) (a .s) (sign f ts) (sign f us) (below h) (a .from))))
   in-parts f ts us v h (by-part {us = vs} j) k = meet-below f (k vs j)
 
   -- any two steps from one term

@@ -4,9 +4,13 @@ use mathlib.Core.Logic.{_⊎_, inl, inr}
 use mathlib.Core.List.{List, [], _∷_, _++_, map}
 use mathlib.Core.Option.{some}
 use Prim.Native.Nat.{ℕ, zero, suc}
-use Rattle.rewriting.specs.Terms.{nth, Term, letter, sign, Terms, none1, and1, put, In}
-use Rattle.rewriting.specs.Rules.{Eq, Step, at-top, below, Steps1, in-first, in-rest, Steps, stay, go, Done, Ends, ends}
+use Rattle.rewriting.specs.Terms.{nth, Term, letter, sign, Terms, none1, and1, put, Fits}
+use Rattle.rewriting.specs.Rules.{Eq, Step, at-top, below, Steps1, in-first, in-rest, stay, go, Done, Ends, ends}
+use Rattle.rewriting.specs.Order.{rank, All-down}
+use Rattle.rewriting.specs.Books.{Book, Fine}
 use Rattle.rewriting.proofs.Choosing.{no-some, Each}
+use Rattle.rewriting.proofs.Stepping.{Comes, No-new-letters}
+use Rattle.rewriting.proofs.Terminating.{down-letters, down-ends}
 use Rattle.rewriting.proofs.Comparing.{dec-term}
 use Rattle.rewriting.proofs.Matching.{found, found-put}
 
@@ -30,45 +34,54 @@ module _ {A : Type 0} {P : A → Type 0} where
   has-map f g (next h) = next (has-map f g h)
 
 module _ (rs : List Eq) where
+  abbrev pub Reduct : Term → Type 0
+  Reduct t = (u : Term) × Step rs t u
+
+  abbrev Reduct-in : Terms → Type 0
+  Reduct-in ts = (us : Terms) × Steps1 rs ts us
+
+  abbrev Rule : Eq → Type 0
+  Rule r = (i : ℕ) × (nth rs i ≡ some r)
+
   -- by a rule at the top
-  top : (t : Term) (r : Eq) → ((i : ℕ) × (nth rs i ≡ some r)) → Dec (put (found (r .left) t) (r .left) ≡ t) → List ((u : Term) × Step rs t u)
+  top : (t : Term) (r : Eq) → Rule r → Dec (put (found (r .left) t) (r .left) ≡ t) → List (Reduct t)
   top t r i (yes e) = (u, subst (λ (v : Term). Step rs v u) e (at-top (i .0) r (found (r .left) t) (i .1))) ∷ []
     where
       u : Term
       u = put (found (r .left) t) (r .right)
   top t r i (no n) = []
 
-  tops : (t : Term) (qs : List Eq) → Each (λ (r : Eq). (i : ℕ) × (nth rs i ≡ some r)) qs → List ((u : Term) × Step rs t u)
+  tops : (t : Term) (qs : List Eq) → Each Rule qs → List (Reduct t)
   tops t [] k = []
   tops t (q ∷ qs) k = top t q (k 0 q refl) (dec-term (put (found (q .left) t) (q .left)) t) ++ tops t qs (λ i r e. k (suc i) r e)
 
-  abbrev at-tops : (t : Term) → List ((u : Term) × Step rs t u)
+  abbrev at-tops : (t : Term) → List (Reduct t)
   at-tops t = tops t rs (λ i r e. (i, e))
 
   -- in the parts
   abbrev mutual
-    insides : (t : Term) → List ((u : Term) × Step rs t u)
+    insides : (t : Term) → List (Reduct t)
     insides (letter x) = []
-    insides (sign f ts) = map (λ (p : (us : Terms) × Steps1 rs ts us). (sign f (p .0), below (p .1))) (insides-all ts)
+    insides (sign f ts) = map (λ (p : Reduct-in ts). (sign f (p .0), below (p .1))) (insides-all ts)
 
-    insides-all : (ts : Terms) → List ((us : Terms) × Steps1 rs ts us)
+    insides-all : (ts : Terms) → List (Reduct-in ts)
     insides-all none1 = []
-    insides-all (and1 t ts) = map (λ (p : (u : Term) × Step rs t u). (and1 (p .0) ts, in-first (p .1))) (at-tops t ++ insides t)
-        ++ map (λ (p : (us : Terms) × Steps1 rs ts us). (and1 t (p .0), in-rest (p .1))) (insides-all ts)
+    insides-all (and1 t ts) = map (λ (p : Reduct t). (and1 (p .0) ts, in-first (p .1))) (at-tops t ++ insides t)
+        ++ map (λ (p : Reduct-in ts). (and1 t (p .0), in-rest (p .1))) (insides-all ts)
 
-  pub reducts : (t : Term) → List ((u : Term) × Step rs t u)
+  pub reducts : (t : Term) → List (Reduct t)
   reducts t = at-tops t ++ insides t
 
-  -- each step is among them, if no rule brings in letters
-  module _ (keep : Each (λ (r : Eq). (x : ℕ) → In x (r .right) → In x (r .left)) rs) where
-    has-top : (s : ℕ → Term) (r : Eq) (i : (i : ℕ) × (nth rs i ≡ some r))
-        (d : Dec (put (found (r .left) (put s (r .left))) (r .left) ≡ put s (r .left))) → Has (put s (r .right)) (top (put s (r .left)) r i d)
+  -- each step is among them
+  module _ (keep : No-new-letters rs) where
+    has-top : (s : ℕ → Term) (r : Eq) (i : Rule r) (d : Dec (put (found (r .left) (put s (r .left))) (r .left) ≡ put s (r .left))) →
+        Has (put s (r .right)) (top (put s (r .left)) r i d)
     unfolding top
     has-top s r i (yes e) = first (found-put s (r .left) (r .right) (keep (i .0) r (i .1)))
     has-top s r i (no n) = absurd (n (found-put s (r .left) (r .left) (λ x j. j)))
 
-    has-tops : (s : ℕ → Term) (r : Eq) (qs : List Eq) (k : Each (λ (r : Eq). (i : ℕ) × (nth rs i ≡ some r)) qs) (i : ℕ) →
-        nth qs i ≡ some r → Has (put s (r .right)) (tops (put s (r .left)) qs k)
+    has-tops : (s : ℕ → Term) (r : Eq) (qs : List Eq) (k : Each Rule qs) (i : ℕ) → nth qs i ≡ some r →
+        Has (put s (r .right)) (tops (put s (r .left)) qs k)
     unfolding tops
     has-tops s r [] k i e = absurd (no-some e)
     has-tops s r (q ∷ qs) k zero e =
@@ -88,15 +101,18 @@ module _ (rs : List Eq) where
       has-steps (in-first {ts = ts} h) = has-left _ (has-map (λ u. and1 u ts) (λ u k. in-first k) (has-step h))
       has-steps (in-rest {t = t} h) = has-right _ (has-map (and1 t) (λ us k. in-rest k) (has-steps h))
 
-    pub step-or-done : (t : Term) → ((u : Term) × Step rs t u) ⊎ Done rs t
+    pub step-or-done : (t : Term) → Reduct t ⊎ Done rs t
     step-or-done t = told (reducts t) (λ u h. has-step h)
       where
-        told : (ps : List ((u : Term) × Step rs t u)) → ((u : Term) → Step rs t u → Has u ps) → ((u : Term) × Step rs t u) ⊎ Done rs t
+        told : (ps : List (Reduct t)) → ((u : Term) → Step rs t u → Has u ps) → Reduct t ⊎ Done rs t
         told [] h = inr (λ u k. elim (h u k) [ ])
         told (p ∷ ps) h = inl p
 
-    pub comes-to-done : {t : Term} → Ends rs t → (n : Term) × Steps rs t n × Done rs n
-    comes-to-done {t} (ends f) = elim (step-or-done t) [
-      | inl p ↦ let n = comes-to-done (f (p .0) (p .1)) in (n .0, go (p .1) (n .1), n .2)
+    ends-come : {t : Term} → Ends rs t → Comes rs t
+    ends-come {t} (ends f) = elim (step-or-done t) [
+      | inl p ↦ let n = ends-come (f (p .0) (p .1)) in (n .0, go (p .1) (n .1), n .2)
       | inr d ↦ (t, stay, d)
     ]
+
+pub comes : (b : Book) → Fine b → All-down (rank (b .ranks)) (b .rules) → (t : Term) → Fits (b .parts) t → Comes (b .rules) t
+comes b fine down t f = ends-come (b .rules) (down-letters (rank (b .ranks)) (b .rules) down) (down-ends b fine down t f)

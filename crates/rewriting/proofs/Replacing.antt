@@ -73,7 +73,8 @@ mutual
 pub change : (ℕ → Term) → ℕ → Term → ℕ → Term
 change s x v y = pick (ℕ-discrete x y) v (s y)
 
-pub change-has : (P : Term → Type 0) (s : ℕ → Term) (x : ℕ) (v : Term) (y : ℕ) → (x ≡ y → P v) → ((x ≡ y → ⊥) → P (s y)) → P (change s x v y)
+pub change-has : (P : Term → Type 0) (s : ℕ → Term) (x : ℕ) (v : Term) (y : ℕ) →
+    (x ≡ y → P v) → ((x ≡ y → ⊥) → P (s y)) → P (change s x v y)
 unfolding change
 change-has P s x v y h k = pick-has P (ℕ-discrete x y) v (s y) h k
 

@@ -1,20 +1,18 @@
 -- Books that settle their equations: equal terms come together, and each comes to one term that is done.
 use mathlib.Core.Path.{_≡_, refl, sym, _∙_, ap, subst₂}
 use mathlib.Core.List.{List}
-use mathlib.Core.Option.{Option, some}
+use mathlib.Core.Option.{some}
 use Prim.Native.Nat.{ℕ, _+_}
-use Rattle.rewriting.specs.Terms.{nth, Term, letter, sign, Terms, none1, and1, put, puts, count, Small-letter, Fits}
+use Rattle.rewriting.specs.Terms.{nth, Term, letter, Terms, none1, and1, put, puts, count, Small-letter, Fits}
 use Rattle.rewriting.specs.Rules.{Eq, Equal, same, back, on, by, inside, Equals, none-left, and-then, Meet, Done}
 use Rattle.rewriting.specs.Rules.{Step, at-top, below, Steps1, in-first, in-rest, Steps, stay, go}
-use Rattle.rewriting.specs.Order.{rank}
 use Rattle.rewriting.specs.Books.{Book, All-sides, One-end, No-less}
-use Rattle.rewriting.specs.Theorems.{Is-settled, Settled}
-use Rattle.rewriting.proofs.Choosing.{Each, pick, pick-has, pick-yes, pick-no, dec-some}
+use Rattle.rewriting.specs.Theorems.{Settled}
+use Rattle.rewriting.proofs.Choosing.{Each, pick, pick-yes, pick-no, dec-some}
 use Rattle.rewriting.proofs.Replacing.{put-put}
 use Rattle.rewriting.proofs.Stepping.{trans, done-stays, meet-put, meet-swap, stay-in, Meets, meet-below, meet-both}
 use Rattle.rewriting.proofs.Signature.{over-fits}
-use Rattle.rewriting.proofs.Terminating.{Falling, falling, falling-letters, falling-ends}
-use Rattle.rewriting.proofs.Reducts.{comes-to-done}
+use Rattle.rewriting.proofs.Reducts.{comes}
 use Rattle.rewriting.proofs.Cleaning.{clean, cleans, clean-fits, clean-put, clean-same}
 
 -- equality goes along with replacing
@@ -94,16 +92,10 @@ one-done b one-end t m n f hm dm hn dn = let k = one-end t m n f hm hn in done-s
 pub settled : Settled
 settled b fine down one-end no-less no-more = record {
   equal = λ t u ft fu. (come t u ft fu, meet-equal (b .eqs) (b .rules) no-more);
-  comes = λ t f. comes-to-done (b .rules) (falling-letters rk (b .parts) (b .rules) fall) (falling-ends rk (b .parts) (b .rules) fall t f);
+  comes = comes b fine down;
   one = one-done b one-end;
 }
   where
-    rk : ℕ → ℕ
-    rk = rank (b .ranks)
-
-    fall : Falling rk (b .parts) (b .rules)
-    fall = falling b fine down
-
     come : (t u : Term) → Fits (b .parts) t → Fits (b .parts) u → Equal (b .eqs) t u → Meet (b .rules) t u
     come t u ft fu h = subst₂ (Meet (b .rules)) (clean-same (b .parts) t ft) (clean-same (b .parts) u fu)
         (equal-meet b (fine .eqs) one-end no-less h)

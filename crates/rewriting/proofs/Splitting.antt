@@ -8,16 +8,19 @@ use Rattle.rewriting.specs.Rules.{Eq, Step, Steps1, in-first, in-rest, Steps, 
 use Rattle.rewriting.specs.Rules.{Part, itself, in-part, Parts, in-this, in-later}
 use Rattle.rewriting.specs.Overlaps.{fill, fills}
 use Rattle.rewriting.proofs.Replacing.{change, change-has, change-here}
-use Rattle.rewriting.proofs.Stepping.{Steps-in, steps-below, steps-both, steps-under, steps-unders, Top, From-sign, by-top, by-part, from-sign}
+use Rattle.rewriting.proofs.Stepping.{Steps-in, steps-below, steps-both, steps-under, steps-unders}
+use Rattle.rewriting.proofs.Stepping.{Top, From-sign, by-top, by-part, from-sign}
 
 -- from put s m to v: v comes to m with what is stepped to put for all letters; or a rule is used at the part p
 pub data Split (rs : List Eq) (s : ℕ → Term) (m v : Term) : Type 0 where
   in-letter : (r : ℕ → Term) → ((x : ℕ) → Steps rs (s x) (r x)) → Steps rs v (put r m) → Split rs s m v
-  at-part : {f : ℕ} {vs : Terms} {w : Term} (p : Part (sign f vs) m) → Top rs (put s (sign f vs)) w → v ≡ fill p s w → Split rs s m v
+  at-part : {f : ℕ} {vs : Terms} {w : Term} (p : Part (sign f vs) m) →
+      Top rs (put s (sign f vs)) w → v ≡ fill p s w → Split rs s m v
 
 data Splits (rs : List Eq) (s : ℕ → Term) (ms us : Terms) : Type 0 where
   in-letters : (r : ℕ → Term) → ((x : ℕ) → Steps rs (s x) (r x)) → Steps-in rs us (puts r ms) → Splits rs s ms us
-  at-parts : {f : ℕ} {vs : Terms} {w : Term} (p : Parts (sign f vs) ms) → Top rs (put s (sign f vs)) w → us ≡ fills p s w → Splits rs s ms us
+  at-parts : {f : ℕ} {vs : Terms} {w : Term} (p : Parts (sign f vs) ms) →
+      Top rs (put s (sign f vs)) w → us ≡ fills p s w → Splits rs s ms us
 
 split-sign : {rs : List Eq} {s : ℕ → Term} {ms us : Terms} (f : ℕ) → Splits rs s ms us → Split rs s (sign f ms) (sign f us)
 split-sign f (in-letters r h k) = in-letter r h (steps-below f k)

@@ -4,10 +4,11 @@ use mathlib.Core.List.{List}
 use mathlib.Core.Option.{some}
 use Prim.Native.Nat.{ℕ, _+_}
 use native.Mathlib.Omega.{arith}
-use Rattle.rewriting.specs.Terms.{nth, Term, letter, sign, Terms, none1, and1, put, puts, count}
+use Rattle.rewriting.specs.Terms.{nth, Term, letter, sign, Terms, none1, and1, put, puts, count, In}
 use Rattle.rewriting.specs.Rules.{Eq, Step, at-top, below, Steps1, in-first, in-rest, Steps, stay, go, Meet, Done, renamed}
 use Rattle.rewriting.specs.Rules.{Part, itself, in-part, Parts, in-this, in-later}
 use Rattle.rewriting.specs.Overlaps.{fill, fills}
+use Rattle.rewriting.proofs.Choosing.{Each}
 use Rattle.rewriting.proofs.Replacing.{put-put}
 
 pub trans : {rs : List Eq} {t u v : Term} → Steps rs t u → Steps rs u v → Steps rs t v
@@ -17,6 +18,10 @@ trans (go s h) k = go s (trans h k)
 pub done-stays : {rs : List Eq} {t u : Term} → Done rs t → Steps rs t u → t ≡ u
 done-stays d stay = refl
 done-stays d (go {u = u} h hs) = absurd (d u h)
+
+-- t comes to a term at which nothing can be done
+abbrev pub Comes : List Eq → Term → Type 0
+Comes rs t = (n : Term) × Steps rs t n × Done rs n
 
 -- along with replacing
 mutual
@@ -133,6 +138,10 @@ from-sign {rs} (below {f = g} {ts = as1} {us = us} k) f ts h =
 pub from-letter : {rs : List Eq} {w v : Term} → Step rs w v → (x : ℕ) → w ≡ letter x → Top rs w v
 from-letter (at-top i r s e) x h = top-of i r s e
 from-letter (below k) x h = let z : _≡_ {A = ℕ} 0 1 = cc in absurd (omega arith)
+
+-- no rule brings in letters
+abbrev pub No-new-letters : List Eq → Type 0
+No-new-letters rs = Each (λ (r : Eq). (x : ℕ) → In x (r .right) → In x (r .left)) rs
 
 pub steps1-count : {rs : List Eq} {ts us : Terms} → Steps1 rs ts us → count ts ≡ count us
 steps1-count (in-first h) = refl

@@ -1,11 +1,12 @@
 -- The worked example: both rules go down, and 1 and 1 come to 2.
 use mathlib.Core.Path.{refl}
-use mathlib.Core.List.{List, [], _∷_}
+use mathlib.Core.List.{[], _∷_}
 use Prim.Native.Nat.{ℕ, suc}
 use native.Mathlib.Omega.{arith}
-use Rattle.rewriting.specs.Terms.{Term, letter, sign, none1, and1}
+use Rattle.rewriting.specs.Terms.{Term, letter}
 use Rattle.rewriting.specs.Rules.{Eq, at-top, below, in-first}
-use Rattle.rewriting.specs.Order.{rank, Greater, by-part, by-sign, by-order, this-is, this-more, later, none-there, this-less, here, All-down}
+use Rattle.rewriting.specs.Order.{rank, All-down, Greater, by-part, by-sign, by-order}
+use Rattle.rewriting.specs.Order.{this-is, this-more, later, none-there, this-less, here}
 use Rattle.rewriting.specs.Sums.{zero as zero-sign, next, plus, sum-rules, Sums-worked}
 use Rattle.rewriting.proofs.Choosing.{each-none, each-cons}
 

@@ -14,7 +14,8 @@ use Rattle.rewriting.specs.Overlaps.{Least}
 use Rattle.rewriting.specs.Theorems.{Made-one}
 use Rattle.rewriting.proofs.Replacing.{put-put, put-through, in-put, sizes-in, change, change-has}
 use Rattle.rewriting.proofs.Comparing.{letter-not-sign, none-not-and}
-use Rattle.rewriting.proofs.Letters.{Member, member-left, member-right, letters, letters-has, remove, remove-keeps, remove-shorter, in-letter, dec-in}
+use Rattle.rewriting.proofs.Letters.{Member, member-left, member-right, letters, letters-has, in-letter, dec-in}
+use Rattle.rewriting.proofs.Letters.{remove, remove-keeps, remove-shorter}
 use Rattle.rewriting.proofs.Signature.{put-fits}
 use Rattle.rewriting.proofs.Cleaning.{clean, clean-fits, clean-put}
 
