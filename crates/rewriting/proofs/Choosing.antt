@@ -28,6 +28,10 @@ pick-yes {A} d a b h = pick-has (λ (c : A). c ≡ a) d a b (λ e. refl) (λ n. 
 pub pick-no : {A B : Type 0} (d : Dec B) (a b : A) → (B → ⊥) → pick d a b ≡ b
 pick-no {A} d a b h = pick-has (λ (c : A). c ≡ b) d a b (λ e. absurd (h e)) (λ n. refl)
 
+pub dec-map : {A B : Type 0} → (A → B) → (B → A) → Dec A → Dec B
+dec-map f g (yes a) = yes (f a)
+dec-map f g (no n) = no λ b. n (g b)
+
 pub dec-both : {A B : Type 0} → Dec A → Dec B → Dec (A × B)
 dec-both (yes a) (yes b) = yes (a, b)
 dec-both (yes a) (no n) = no λ p. n (p .1)
@@ -35,11 +39,7 @@ dec-both (no n) b = no λ p. n (p .0)
 
 pub dec-some : (o : Option ℕ) (n : ℕ) → Dec (o ≡ some n)
 dec-some none n = no no-some
-dec-some (some m) n = at (ℕ-discrete m n)
-  where
-    at : Dec (m ≡ n) → Dec (some m ≡ some n)
-    at (yes e) = yes (ap some e)
-    at (no k) = no λ p. k (cc)
+dec-some (some m) n = dec-map (ap some) (λ e. cc) (ℕ-discrete m n)
 
 -- or else N
 pub map-or : {A B N : Type 0} → (A → B) → A ⊎ N → B ⊎ N

@@ -6,6 +6,7 @@ use native.Mathlib.Decide.{ℕ-discrete, decLt}
 use Rattle.rewriting.specs.Terms.{Term, letter, sign, Terms, none1, and1}
 use Rattle.rewriting.specs.Order.{Rank, Greater, by-part, by-sign, by-order, Some-at-least, this-is, this-more, later}
 use Rattle.rewriting.specs.Order.{All-less, none-there, this-less, First-greater, here, further}
+use Rattle.rewriting.proofs.Choosing.{dec-map, dec-both}
 
 pub letter-not-sign : {x f : ℕ} {ts : Terms} → letter x ≡ sign f ts → ⊥
 letter-not-sign e = let z : _≡_ {A = ℕ} 0 1 = cc in omega arith
@@ -13,23 +14,15 @@ letter-not-sign e = let z : _≡_ {A = ℕ} 0 1 = cc in omega arith
 pub none-not-and : {t : Term} {ts : Terms} → none1 ≡ and1 t ts → ⊥
 none-not-and e = let z : _≡_ {A = ℕ} 0 1 = cc in omega arith
 
-letter-of : (x y : ℕ) → Dec (x ≡ y) → Dec (letter x ≡ letter y)
-letter-of x y (yes e) = yes (ap letter e)
-letter-of x y (no n) = no λ p. n (cc)
-
 sign-of : (f g : ℕ) (ts us : Terms) → Dec (f ≡ g) → Dec (ts ≡ us) → Dec (sign f ts ≡ sign g us)
-sign-of f g ts us (yes e) (yes d) = yes (cc)
-sign-of f g ts us (yes e) (no n) = no λ p. n (cc)
-sign-of f g ts us (no n) d = no λ p. n (cc)
+sign-of f g ts us e d = dec-map (λ h. let p = h .0 in let q = h .1 in cc) (λ p. (cc, cc)) (dec-both e d)
 
 and-of : (t u : Term) (ts us : Terms) → Dec (t ≡ u) → Dec (ts ≡ us) → Dec (and1 t ts ≡ and1 u us)
-and-of t u ts us (yes e) (yes d) = yes (cc)
-and-of t u ts us (yes e) (no n) = no λ p. n (cc)
-and-of t u ts us (no n) d = no λ p. n (cc)
+and-of t u ts us e d = dec-map (λ h. let p = h .0 in let q = h .1 in cc) (λ p. (cc, cc)) (dec-both e d)
 
 mutual
   pub dec-term : (t u : Term) → Dec (t ≡ u)
-  dec-term (letter x) (letter y) = letter-of x y (ℕ-discrete x y)
+  dec-term (letter x) (letter y) = dec-map (ap letter) (λ e. cc) (ℕ-discrete x y)
   dec-term (letter x) (sign g us) = no letter-not-sign
   dec-term (sign f ts) (letter y) = no λ e. letter-not-sign (sym e)
   dec-term (sign f ts) (sign g us) = sign-of f g ts us (ℕ-discrete f g) (dec-terms ts us)

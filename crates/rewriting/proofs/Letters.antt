@@ -6,7 +6,7 @@ use native.Mathlib.Omega.{arith}
 use native.Mathlib.Decide.{ℕ-discrete}
 use lib.ListN.{length}
 use Rattle.rewriting.specs.Terms.{Term, letter, sign, Terms, none1, and1, In, is, part, Ins, here, there}
-use Rattle.rewriting.proofs.Choosing.{pick, pick-has}
+use Rattle.rewriting.proofs.Choosing.{dec-map, pick, pick-has}
 
 pub data Member (x : ℕ) : List ℕ → Type 0 where
   first : {xs : List ℕ} → Member x (x ∷ xs)
@@ -84,14 +84,6 @@ in-either : {x : ℕ} {t : Term} {ts : Terms} → (In x t → ⊥) → (Ins x ts
 in-either n m (here i) = n i
 in-either n m (there i) = m i
 
-letter-of : (x y : ℕ) → Dec (x ≡ y) → Dec (In x (letter y))
-letter-of x y (yes e) = yes (subst (λ (z : ℕ). In x (letter z)) e is)
-letter-of x y (no n) = no λ i. n (in-letter i)
-
-sign-of : (x f : ℕ) (ts : Terms) → Dec (Ins x ts) → Dec (In x (sign f ts))
-sign-of x f ts (yes i) = yes (part i)
-sign-of x f ts (no n) = no λ i. n (in-sign i)
-
 and-of : (x : ℕ) (t : Term) (ts : Terms) → Dec (In x t) → Dec (Ins x ts) → Dec (Ins x (and1 t ts))
 and-of x t ts (yes i) d = yes (here i)
 and-of x t ts (no n) (yes i) = yes (there i)
@@ -99,8 +91,8 @@ and-of x t ts (no n) (no m) = no (in-either n m)
 
 mutual
   pub dec-in : (x : ℕ) (t : Term) → Dec (In x t)
-  dec-in x (letter y) = letter-of x y (ℕ-discrete x y)
-  dec-in x (sign f ts) = sign-of x f ts (dec-ins x ts)
+  dec-in x (letter y) = dec-map (λ e. subst (λ (z : ℕ). In x (letter z)) e is) in-letter (ℕ-discrete x y)
+  dec-in x (sign f ts) = dec-map part in-sign (dec-ins x ts)
 
   dec-ins : (x : ℕ) (ts : Terms) → Dec (Ins x ts)
   dec-ins x none1 = no in-none

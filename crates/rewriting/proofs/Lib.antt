@@ -19,3 +19,6 @@ pub mod Splitting
 pub mod Peaks
 pub mod Pairs
 pub mod Sums
+pub mod Bindings
+pub mod Waying
+pub mod Verdicts

@@ -3,7 +3,7 @@ use mathlib.Core.Path.{_≡_, refl, sym, ap}
 use Prim.Native.Nat.{ℕ}
 use native.Mathlib.Decide.{ℕ-discrete}
 use Rattle.rewriting.specs.Terms.{Term, letter, sign, Terms, none1, and1, put, puts, In, is, part, Ins, here, there}
-use Rattle.rewriting.proofs.Choosing.{pick, pick-has, pick-yes}
+use Rattle.rewriting.proofs.Choosing.{dec-map, pick, pick-has, pick-yes}
 use Rattle.rewriting.proofs.Replacing.{put-agree}
 use Rattle.rewriting.proofs.Comparing.{dec-term}
 
@@ -50,8 +50,4 @@ pub found-same : (s : ℕ → Term) (l t : Term) → put s l ≡ t → put (foun
 found-same s l t e = rw (← e) (found-put s l l (λ x i. i))
 
 pub dec-instance : (l t : Term) → Dec ((s : ℕ → Term) × (put s l ≡ t))
-dec-instance l t = told (dec-term (put (found l t) l) t)
-  where
-    told : Dec (put (found l t) l ≡ t) → Dec ((s : ℕ → Term) × (put s l ≡ t))
-    told (yes e) = yes (found l t, e)
-    told (no n) = no λ p. n (found-same (p .0) l t (p .1))
+dec-instance l t = dec-map (λ e. (found l t, e)) (λ p. found-same (p .0) l t (p .1)) (dec-term (put (found l t) l) t)

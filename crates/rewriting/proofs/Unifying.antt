@@ -12,7 +12,7 @@ use Rattle.rewriting.specs.Terms.{Term, letter, sign, Terms, none1, and1, put,
 use Rattle.rewriting.specs.Terms.{In, is, part, Ins, here, there}
 use Rattle.rewriting.specs.Overlaps.{Least}
 use Rattle.rewriting.specs.Theorems.{Made-one}
-use Rattle.rewriting.proofs.Replacing.{put-put, put-through, in-put, sizes-in, change, change-has}
+use Rattle.rewriting.proofs.Replacing.{put-put, put-through, in-put, sizes-in, change, change-has, change-here, change-other}
 use Rattle.rewriting.proofs.Comparing.{letter-not-sign, none-not-and}
 use Rattle.rewriting.proofs.Letters.{Member, member-left, member-right, letters, letters-has, in-letter, dec-in}
 use Rattle.rewriting.proofs.Letters.{remove, remove-keeps, remove-shorter}
@@ -72,6 +72,14 @@ occurs r x (sign f us) (part i) n e =
 -- u for x everywhere
 pub single : ℕ → Term → ℕ → Term
 single x u = change letter x u
+
+pub single-here : (x : ℕ) (u : Term) → single x u x ≡ u
+unfolding single
+single-here x u = change-here letter x u
+
+pub single-other : (x : ℕ) (u : Term) (y : ℕ) → (x ≡ y → ⊥) → single x u y ≡ letter y
+unfolding single
+single-other x u y n = change-other letter x u y n
 
 pub single-holds : (r : ℕ → Term) (x : ℕ) (u : Term) → r x ≡ put r u → (y : ℕ) → r y ≡ put r (single x u y)
 unfolding single
