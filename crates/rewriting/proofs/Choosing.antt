@@ -37,6 +37,11 @@ dec-both (yes a) (yes b) = yes (a, b)
 dec-both (yes a) (no n) = no λ p. n (p .1)
 dec-both (no n) b = no λ p. n (p .0)
 
+pub dec-either : {A B : Type 0} → Dec A → Dec B → Dec (A ⊎ B)
+dec-either (yes a) b = yes (inl a)
+dec-either (no n) (yes b) = yes (inr b)
+dec-either (no n) (no m) = no λ p. elim p [ inl a ↦ n a | inr b ↦ m b ]
+
 pub dec-some : (o : Option ℕ) (n : ℕ) → Dec (o ≡ some n)
 dec-some none n = no no-some
 dec-some (some m) n = dec-map (ap some) (λ e. cc) (ℕ-discrete m n)

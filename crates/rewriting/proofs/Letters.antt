@@ -1,12 +1,13 @@
 -- Lists of letters: of a term, and with one letter taken out.
 use mathlib.Core.Path.{_≡_, refl, subst}
+use mathlib.Core.Logic.{_⊎_, inl, inr}
 use mathlib.Core.List.{List, [], _∷_, _++_}
 use Prim.Native.Nat.{ℕ, _<_, _≤_}
 use native.Mathlib.Omega.{arith}
 use native.Mathlib.Decide.{ℕ-discrete}
 use lib.ListN.{length}
 use Rattle.rewriting.specs.Terms.{Term, letter, sign, Terms, none1, and1, In, is, part, Ins, here, there}
-use Rattle.rewriting.proofs.Choosing.{dec-map, pick, pick-has}
+use Rattle.rewriting.proofs.Choosing.{dec-map, dec-either, pick, pick-has}
 
 pub data Member (x : ℕ) : List ℕ → Type 0 where
   first : {xs : List ℕ} → Member x (x ∷ xs)
@@ -77,17 +78,13 @@ in-letter is = refl
 in-sign : {x f : ℕ} {ts : Terms} → In x (sign f ts) → Ins x ts
 in-sign (part i) = i
 
-in-none : {x : ℕ} → Ins x none1 → ⊥
-in-none i = elim i [ ]
+in-cases : {x : ℕ} {t : Term} {ts : Terms} → Ins x (and1 t ts) → In x t ⊎ Ins x ts
+in-cases (here i) = inl i
+in-cases (there i) = inr i
 
-in-either : {x : ℕ} {t : Term} {ts : Terms} → (In x t → ⊥) → (Ins x ts → ⊥) → Ins x (and1 t ts) → ⊥
-in-either n m (here i) = n i
-in-either n m (there i) = m i
-
-and-of : (x : ℕ) (t : Term) (ts : Terms) → Dec (In x t) → Dec (Ins x ts) → Dec (Ins x (and1 t ts))
-and-of x t ts (yes i) d = yes (here i)
-and-of x t ts (no n) (yes i) = yes (there i)
-and-of x t ts (no n) (no m) = no (in-either n m)
+in-from : {x : ℕ} {t : Term} {ts : Terms} → In x t ⊎ Ins x ts → Ins x (and1 t ts)
+in-from (inl i) = here i
+in-from (inr i) = there i
 
 mutual
   pub dec-in : (x : ℕ) (t : Term) → Dec (In x t)
@@ -95,5 +92,5 @@ mutual
   dec-in x (sign f ts) = dec-map part in-sign (dec-ins x ts)
 
   dec-ins : (x : ℕ) (ts : Terms) → Dec (Ins x ts)
-  dec-ins x none1 = no in-none
-  dec-ins x (and1 t ts) = and-of x t ts (dec-in x t) (dec-ins x ts)
+  dec-ins x none1 = no λ i. elim i [ ]
+  dec-ins x (and1 t ts) = dec-map in-from in-cases (dec-either (dec-in x t) (dec-ins x ts))
