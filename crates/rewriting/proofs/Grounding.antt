@@ -26,12 +26,17 @@ module _ (rk : Rank) (ps : List ℕ) where
       less (grounded h) v f g = h v f g
   part-grounded (later p) gs f = part-grounded p (gs .1) f
 
-  -- t has grounded parts, and the terms with grounded parts and a lower sign, or the same sign and lesser parts, are grounded
+  -- terms with grounded parts are grounded: with a lower sign than f; with the sign f and lesser parts than ts
+  abbrev Lower-ground : ℕ → Type 0
+  Lower-ground f = (g : ℕ) (us : Terms) → rk g < rk f → Fits ps (sign g us) → All-grounded us → Grounded rk ps (sign g us)
+
+  abbrev Lesser-ground : ℕ → Terms → Type 0
+  Lesser-ground f ts = (us : Terms) → First-greater rk ts us → Fits ps (sign f us) → All-grounded us → Grounded rk ps (sign f us)
+
+  -- then all that is less is grounded
   abbrev Ready : Term → Type 0
   Ready (letter x) = Unit {0}
-  Ready (sign f ts) = All-grounded ts
-      × ((g : ℕ) (us : Terms) → rk g < rk f → Fits ps (sign g us) → All-grounded us → Grounded rk ps (sign g us))
-      × ((us : Terms) → First-greater rk ts us → Fits ps (sign f us) → All-grounded us → Grounded rk ps (sign f us))
+  Ready (sign f ts) = All-grounded ts × Lower-ground f × Lesser-ground f ts
 
   mutual
     less-grounded : {t u : Term} → Greater rk t u → Ready t → Fits ps u → Grounded rk ps u
@@ -64,7 +69,7 @@ module _ (rk : Rank) (ps : List ℕ) where
       next (further {us = us} l) c f gs k = k us (omega arith) (f .1) (gs .1) l
 
   in-first : (n : ℕ) {t : Term} → Grounded rk ps t → ((us : Terms) → count us ≡ n → Fit us → All-grounded us → Lists-ground n us) →
-      (ts : Terms) → count ts ≡ n → Fit ts → All-grounded ts → Lists-ground (suc n) (and1 t ts)
+      Front-ground n t
   in-first n (grounded {t = t} h) all ts c f gs = in-rest n t (λ u fu g us d k ks. in-first n (h u fu g) all us d k ks) (all ts c f gs)
 
   all-lists : (n : ℕ) (ts : Terms) → count ts ≡ n → Fit ts → All-grounded ts → Lists-ground n ts
@@ -76,15 +81,12 @@ module _ (rk : Rank) (ps : List ℕ) where
   same-count f ts us h k = let a = h .0 in let b = k .0 in cc
 
   -- a sign with grounded parts
-  by-parts : (f n : ℕ) →
-      ((g : ℕ) (us : Terms) → rk g < rk f → Fits ps (sign g us) → All-grounded us → Grounded rk ps (sign g us)) →
-      {ts : Terms} → Lists-ground n ts → count ts ≡ n → Fits ps (sign f ts) → All-grounded ts → Grounded rk ps (sign f ts)
-  by-parts f n lower (lists-ground {ts = ts} h) c ft gs = grounded λ u fu g. less-grounded g (
-    gs,
-    lower,
-    λ us l k ks.
-        (let d : count us ≡ n = same-count f ts us ft k ∙ c in by-parts f n lower (h us d (k .1) ks l) d k ks),
-  ) fu
+  by-parts : (f n : ℕ) → Lower-ground f → {ts : Terms} → Lists-ground n ts → count ts ≡ n → Fits ps (sign f ts) → All-grounded ts →
+      Grounded rk ps (sign f ts)
+  by-parts f n lower (lists-ground {ts = ts} h) c ft gs =
+      let lesser : Lesser-ground f ts = λ us l k ks.
+      (let d : count us ≡ n = same-count f ts us ft k ∙ c in by-parts f n lower (h us d (k .1) ks l) d k ks) in
+      grounded λ u fu g. less-grounded g (gs, lower, lesser) fu
 
   by-rank : {r : ℕ} → Acc _<_ r → (f : ℕ) → rk f ≡ r → (ts : Terms) → Fits ps (sign f ts) → All-grounded ts → Grounded rk ps (sign f ts)
   by-rank (Acc·intro r h) f e ts ft gs =

@@ -5,14 +5,14 @@ use Prim.Native.Nat.{ℕ, suc, _<_, _≤_, max}
 use native.Mathlib.Omega.{arith}
 use Rattle.rewriting.specs.Terms.{Term, Fits}
 use Rattle.rewriting.specs.Rules.{Eq, Step, Ends, ends}
-use Rattle.rewriting.specs.Order.{Rank, rank, Greater}
+use Rattle.rewriting.specs.Order.{Rank, rank}
 use Rattle.rewriting.specs.Books.{Book}
 use Rattle.rewriting.specs.Theorems.{Falls}
 use Rattle.rewriting.proofs.Choosing.{dec-both, dec-each}
 use Rattle.rewriting.proofs.Stepping.{No-new-letters}
 use Rattle.rewriting.proofs.Signature.{dec-fits}
 use Rattle.rewriting.proofs.Comparing.{dec-greater}
-use Rattle.rewriting.proofs.Terminating.{Falling, falling, down-letters, step-keeps, falling-ends}
+use Rattle.rewriting.proofs.Terminating.{Falls-to, Falling, falling, down-letters, step-keeps, falling-ends}
 use Rattle.rewriting.proofs.Reducts.{Has, first, next, reducts, has-step}
 
 -- the greatest of the numbers of a list
@@ -59,7 +59,7 @@ module _ (rk : Rank) (ps : List ℕ) (rs : List Eq) (t : Term) where
   height-is (no n) f fall fit = absurd (n fall)
 
 dec-falling : (rk : Rank) (ps : List ℕ) (rs : List Eq) → Dec (Falling rk ps rs)
-dec-falling rk ps rs = dec-each (λ (r : Eq). Greater rk (r .left) (r .right) × Fits ps (r .right))
+dec-falling rk ps rs = dec-each (Falls-to rk ps)
     (λ r. dec-both (dec-greater rk (r .left) (r .right)) (dec-fits ps (r .right))) rs
 
 pub height : Book → Term → ℕ

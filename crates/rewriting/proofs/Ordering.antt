@@ -48,7 +48,7 @@ module _ (rk : Rank) where
     less-letters (this-less h hs) x (here i) = greater-letters h x i
     less-letters (this-less h hs) x (there i) = less-letters hs x i
 
-  -- all parts of t are less than t, t being any term that is greater than all that ts are at least
+  -- t is greater than each of ts, if it is greater than all that one of ts is at least
   less-parts : (t : Term) (ts : Terms) → ((u : Term) → Some-at-least rk ts u → Greater rk t u) → All-less rk t ts
   less-parts t none1 h = none-there
   less-parts t (and1 u ts) h = this-less (h u this-is) (less-parts t ts (λ v p. h v (later p)))

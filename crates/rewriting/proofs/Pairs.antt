@@ -7,7 +7,7 @@ use Rattle.rewriting.specs.Terms.{nth, Term, letter, sign, Terms, none1, and1,
 use Rattle.rewriting.specs.Rules.{Eq, Step, at-top, Steps, go, Meet, renamed}
 use Rattle.rewriting.specs.Rules.{Part, itself, in-part, Parts, in-this, in-later}
 use Rattle.rewriting.specs.Order.{rank, All-down}
-use Rattle.rewriting.specs.Overlaps.{fill, Least}
+use Rattle.rewriting.specs.Overlaps.{fill}
 use Rattle.rewriting.specs.Books.{Book, Fine, One-end}
 use Rattle.rewriting.specs.Theorems.{Told-by-pairs}
 use Rattle.rewriting.proofs.Choosing.{map-or, both-or, Each, each-or}
@@ -17,7 +17,7 @@ use Rattle.rewriting.proofs.Comparing.{dec-term}
 use Rattle.rewriting.proofs.Terminating.{step-keeps}
 use Rattle.rewriting.proofs.Reducts.{comes}
 use Rattle.rewriting.proofs.Settling.{one-done}
-use Rattle.rewriting.proofs.Unifying.{Never, made-one, least-fits}
+use Rattle.rewriting.proofs.Unifying.{Solved, made-one, least-fits}
 use Rattle.rewriting.proofs.Peaks.{Results-meet, results-through, overlap-step, overlaps-tell}
 
 -- all parts of a term have Q, or else N, if that can be told of each
@@ -74,7 +74,7 @@ module _ (b : Book) (fine : Fine b) (down : All-down (rank (b .ranks)) (b .rules
       fit : (i : ℕ) (r : Eq) → nth (b .rules) i ≡ some r → Fits (b .parts) (r .left)
       fit i r e = over-fits (b .parts) Small-letter (r .left) (fine .rules i r e .left)
 
-      told : Least n (renamed (q .left)) ⊎ Never n (renamed (q .left)) → Overlap p q n place ⊎ (One-end b → ⊥)
+      told : Solved n (renamed (q .left)) → Overlap p q n place ⊎ (One-end b → ⊥)
       told (inr never) = inl (λ s e. absurd (never s e))
       told (inl l) = map-or (λ m s e. results-through p q place s (l .s) s (l .most s e) m)
           (steps-told (put (l .s) (p .left)) (put (l .s) (p .right)) (fill place (l .s) (put (l .s) (renamed (q .right))))

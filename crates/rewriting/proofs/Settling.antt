@@ -36,8 +36,12 @@ equals-count : {es : List Eq} {ts us : Terms} → Equals es ts us → count ts �
 equals-count none-left = refl
 equals-count (and-then h hs) = ap (λ n. 1 + n) (equals-count hs)
 
+-- the sides of r are equal by es
+abbrev pub Follows : List Eq → Eq → Type 0
+Follows es r = Equal es (r .left) (r .right)
+
 -- steps are equalities, if the rules say no more than the equations
-module _ (es rs : List Eq) (no-more : Each (λ (r : Eq). Equal es (r .left) (r .right)) rs) where
+module _ (es rs : List Eq) (no-more : Each (Follows es) rs) where
   mutual
     pub step-equal : {t u : Term} → Step rs t u → Equal es t u
     step-equal (at-top i r s e) = equal-put s (no-more i r e)

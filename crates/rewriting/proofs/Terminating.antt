@@ -14,9 +14,12 @@ use Rattle.rewriting.proofs.Signature.{over-put, put-over, over-fits}
 use Rattle.rewriting.proofs.Ordering.{greater-letters, step-down}
 use Rattle.rewriting.proofs.Grounding.{order-ends}
 
--- each rule goes down to a term over the signature
+-- a rule goes down to a term over the signature; each does
+abbrev pub Falls-to : Rank → List ℕ → Eq → Type 0
+Falls-to rk ps r = Greater rk (r .left) (r .right) × Fits ps (r .right)
+
 abbrev pub Falling : Rank → List ℕ → List Eq → Type 0
-Falling rk ps rs = Each (λ (r : Eq). Greater rk (r .left) (r .right) × Fits ps (r .right)) rs
+Falling rk ps rs = Each (Falls-to rk ps) rs
 
 pub falling : (b : Book) → Fine b → All-down (rank (b .ranks)) (b .rules) → Falling (rank (b .ranks)) (b .parts) (b .rules)
 falling b fine down i r e = (down i r e, over-fits (b .parts) Small-letter (r .right) (fine .rules i r e .right))

@@ -19,7 +19,8 @@ use Rattle.rewriting.proofs.Letters.{remove, remove-keeps, remove-shorter}
 use Rattle.rewriting.proofs.Signature.{put-fits}
 use Rattle.rewriting.proofs.Cleaning.{clean, clean-fits, clean-put}
 
--- two terms with letters in W are the same; or nothing makes them one (has Q); or what does puts for a letter x the same as for u
+-- of two terms with letters in W: they are the same; or nothing makes them one, which Q says of a replacement; or what does
+-- puts for a letter x what it makes of another term u
 data Difference (W : ℕ → Type 0) (Same : Type 0) (Q : (ℕ → Term) → Type 0) : Type 0 where
   alike : Same → Difference W Same Q
   clash : ((r : ℕ → Term) → Q r → ⊥) → Difference W Same Q
@@ -104,40 +105,38 @@ single-within xs x u t n wu wt z i =
 abbrev pub Never : Term → Term → Type 0
 Never a b = (r : ℕ → Term) → put r a ≡ put r b → ⊥
 
--- what makes the two one after that, made from what makes them one before
-after : (a b : Term) (x : ℕ) (u : Term) (r : ℕ → Term) → put r a ≡ put r b → r x ≡ put r u →
-    put r (put (single x u) a) ≡ put r (put (single x u) b)
-after a b x u r e h = single-put r x u h a ∙ (e ∙ sym (single-put r x u h b))
+abbrev pub Solved : Term → Term → Type 0
+Solved a b = Least a b ⊎ Never a b
 
--- and the other way round
-before : (a b : Term) (x : ℕ) (u : Term) → ((r : ℕ → Term) → put r a ≡ put r b → r x ≡ put r u) →
-    Least (put (single x u) a) (put (single x u) b) ⊎ Never (put (single x u) a) (put (single x u) b) → Least a b ⊎ Never a b
-before a b x u h (inr n) = inr (λ r e. n r (after a b x u r e (h r e)))
-before a b x u h (inl l) = inl (record {
-  s = λ y. put (l .s) (single x u y);
-  one = sym (put-put (l .s) (single x u) a) ∙ (l .one ∙ put-put (l .s) (single x u) b);
-  most = λ r e y. single-holds r x u (h r e) y
-      ∙ sym (put-through r (l .s) r (l .most r (after a b x u r e (h r e))) (single x u y));
-})
+-- two terms that are made one only by what puts the same for x and u, told by what they are with u for x
+module _ (a b : Term) (x : ℕ) (u : Term) (same : (r : ℕ → Term) → put r a ≡ put r b → r x ≡ put r u) where
+  after : (r : ℕ → Term) → put r a ≡ put r b → put r (put (single x u) a) ≡ put r (put (single x u) b)
+  after r e = single-put r x u (same r e) a ∙ (e ∙ sym (single-put r x u (same r e) b))
 
--- if that can be told for fewer letters
-by-letter : (xs : List ℕ) (a b : Term) → Within xs a → Within xs b →
-    ((ys : List ℕ) → length ys < length xs → (c d : Term) → Within ys c → Within ys d → Least c d ⊎ Never c d) →
-    (x : ℕ) (u : Term) → (letter x ≡ u → ⊥) → Member x xs → Within xs u →
-    ((r : ℕ → Term) → put r a ≡ put r b → r x ≡ put r u) → Dec (In x u) → Least a b ⊎ Never a b
-by-letter xs a b wa wb fewer x u n m wu h (yes i) = inr (λ r e. occurs r x u i n (h r e))
-by-letter xs a b wa wb fewer x u n m wu h (no k) = before a b x u h
-    (fewer (remove x xs) (remove-shorter m) (put (single x u) a) (put (single x u) b)
-    (single-within xs x u a k wu wa) (single-within xs x u b k wu wb))
+  before : Solved (put (single x u) a) (put (single x u) b) → Solved a b
+  before (inr n) = inr (λ r e. n r (after r e))
+  before (inl l) = inl (record {
+    s = λ y. put (l .s) (single x u y);
+    one = sym (put-put (l .s) (single x u) a) ∙ (l .one ∙ put-put (l .s) (single x u) b);
+    most = λ r e y. single-holds r x u (same r e) y ∙ sym (put-through r (l .s) r (l .most r (after r e)) (single x u y));
+  })
 
-by-difference : (xs : List ℕ) (a b : Term) → Within xs a → Within xs b →
-    ((ys : List ℕ) → length ys < length xs → (c d : Term) → Within ys c → Within ys d → Least c d ⊎ Never c d) →
-    Difference (λ z. Member z xs) (a ≡ b) (λ r. put r a ≡ put r b) → Least a b ⊎ Never a b
-by-difference xs a b wa wb fewer (alike e) = inl (record { s = letter; one = ap (put letter) e; most = λ r h x. refl })
-by-difference xs a b wa wb fewer (clash c) = inr c
-by-difference xs a b wa wb fewer (differ x u n m wu h) = by-letter xs a b wa wb fewer x u n m wu h (dec-in x u)
+-- two terms with letters in xs, if all terms with fewer letters are solved
+module _ (xs : List ℕ) (a b : Term) (wa : Within xs a) (wb : Within xs b)
+    (fewer : (ys : List ℕ) → length ys < length xs → (c d : Term) → Within ys c → Within ys d → Solved c d) where
+  by-letter : (x : ℕ) (u : Term) → (letter x ≡ u → ⊥) → Member x xs → Within xs u →
+      ((r : ℕ → Term) → put r a ≡ put r b → r x ≡ put r u) → Dec (In x u) → Solved a b
+  by-letter x u other m wu same (yes i) = inr (λ r e. occurs r x u i other (same r e))
+  by-letter x u other m wu same (no n) = before a b x u same
+      (fewer (remove x xs) (remove-shorter m) (put (single x u) a) (put (single x u) b)
+      (single-within xs x u a n wu wa) (single-within xs x u b n wu wb))
 
-solve : {n : ℕ} → Acc _<_ n → (xs : List ℕ) → length xs ≡ n → (a b : Term) → Within xs a → Within xs b → Least a b ⊎ Never a b
+  by-difference : Difference (λ z. Member z xs) (a ≡ b) (λ r. put r a ≡ put r b) → Solved a b
+  by-difference (alike e) = inl (record { s = letter; one = ap (put letter) e; most = λ r h x. refl })
+  by-difference (clash c) = inr c
+  by-difference (differ x u other m wu same) = by-letter x u other m wu same (dec-in x u)
+
+solve : {n : ℕ} → Acc _<_ n → (xs : List ℕ) → length xs ≡ n → (a b : Term) → Within xs a → Within xs b → Solved a b
 solve (Acc·intro n h) xs k a b wa wb = by-difference xs a b wa wb
     (λ ys l c d wc wd. solve (h (length ys) (subst (λ (m : ℕ). length ys < m) k l)) ys refl c d wc wd)
     (difference (λ z. Member z xs) a b wa wb)

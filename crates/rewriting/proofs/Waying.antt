@@ -14,11 +14,7 @@ use Rattle.rewriting.proofs.Stepping.{Top, top-step, From-sign, by-top, by-par
 use Rattle.rewriting.proofs.Signature.{dec-fits}
 use Rattle.rewriting.proofs.Comparing.{dec-term, dec-terms}
 use Rattle.rewriting.proofs.Matching.{dec-instance}
-use Rattle.rewriting.proofs.Settling.{step-equal}
-
--- the sides of r are equal by es
-abbrev pub Follows : List Eq → Eq → Type 0
-Follows es r = Equal es (r .left) (r .right)
+use Rattle.rewriting.proofs.Settling.{Follows, step-equal}
 
 by-itself : (es : List Eq) → Each (Follows es) es
 by-itself es i e h = let p = put-letter (e .left) in let q = put-letter (e .right) in rw p at (rw q at (by i e letter h))
