@@ -1,1 +1,3 @@
 -- Proofs of the theorems.
+pub mod Members
+pub mod Different

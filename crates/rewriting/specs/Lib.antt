@@ -1,6 +1,7 @@
 -- Term rewriting: the definitions and theorems that the contracts cite.
 pub mod Terms
 pub mod Rules
+pub mod Different
 pub mod Order
 pub mod Overlaps
 pub mod Books
