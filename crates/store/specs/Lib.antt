@@ -1,0 +1,4 @@
+-- Shared terms in lent words: the definitions that the contracts cite.
+pub mod Cells
+pub mod Slots
+pub mod Chains
