@@ -4,3 +4,6 @@ pub mod Writing
 pub mod Decoding
 pub mod Telling
 pub mod Chaining
+pub mod Marking
+pub mod Sliding
+pub mod Collecting

@@ -7,6 +7,7 @@ use native.Mathlib.Omega.{arith}
 use lib.ListN.{length, getD, set, length-set}
 use lib.Seq.{getD-set-same, getD-set-other}
 use Rattle.store.specs.Cells.{cell, Has-slot, Cell-put}
+use Rattle.store.specs.Roots.{root-at, Has-roots, Root-put}
 
 -- the words a and a + 1
 pub two-words : (vs : List ℕ) (a v : ℕ) → a + 2 ≤ length vs →
@@ -32,5 +33,18 @@ put-cell vs i k v l h =
           let ne : 8 * j + m ≡ 8 * i + k → ⊥ = (λ e. n (omega arith) (omega arith)) in
           let low = t .1 (16 * j + 2 * m) (λ e. ne (omega arith)) (λ e. omega arith) in
           let high = t .1 (16 * j + 2 * m + 1) (λ e. omega arith) (λ e. ne (omega arith)) in
+          omega arith;
+    }
+
+pub put-root : (qs : List ℕ) (i v : ℕ) → Has-roots qs (i + 1) →
+    Root-put qs i v (set (set qs (2 * i) (v % 4294967296)) (2 * i + 1) (v / 4294967296))
+unfolding root-at
+put-root qs i v l =
+    let t = two-words qs (2 * i) v (omega arith) in
+    record {
+      is = t .0;
+      rest = λ j n.
+          let low = t .1 (2 * j) (λ e. n (omega arith)) (λ e. omega arith) in
+          let high = t .1 (2 * j + 1) (λ e. omega arith) (λ e. n (omega arith)) in
           omega arith;
     }

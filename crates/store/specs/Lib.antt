@@ -2,3 +2,6 @@
 pub mod Cells
 pub mod Slots
 pub mod Chains
+pub mod Marks
+pub mod Slides
+pub mod Roots

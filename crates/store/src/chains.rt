@@ -9,10 +9,10 @@ ghost use Rattle.store.specs.Chains.{mix-of, key-bucket, Chains, Found, Holds,
 use crate::slots::HEAD;
 use crate::slots::LAST;
 use crate::slots::LINK;
-use crate::slots::PARTS;
 use crate::slots::arity;
 use crate::slots::get;
 use crate::slots::kind;
+use crate::slots::part;
 use crate::slots::put;
 use crate::slots::put_slot;
 use crate::types::Key;
@@ -52,7 +52,7 @@ fn holds(ws: &[u32], i: usize, key: &Key) -> bool
         return false;
     }
     for k in 0..arity(kind(key.head)) {
-        if get(ws, i, PARTS + k) != key.parts[k] {
+        if part(ws, i, k) != key.parts[k] {
             return false;
         }
     }

@@ -1,5 +1,7 @@
 // Shared terms in lent words: equal terms have one place, and what no root reaches is taken back.
 mod chains;
+mod collect;
+mod roots;
 mod slots;
 mod types;
 

@@ -3,7 +3,7 @@ ghost use mathlib.Core.Path.{_≡_};
 ghost use Prim.Native.Nat.{ℕ, _+_, _-_, _*_, _<_, _≤_};
 ghost use lib.ListN.{length};
 ghost use Rattle.store.specs.Cells.{cell, Has-slot, Cell-put, Cleared};
-ghost use Rattle.store.specs.Slots.{kind-of, arity-of, arity-at, tag-of, symbol-of, flag-of, Parts-written, Slot-written};
+ghost use Rattle.store.specs.Slots.{kind-of, arity-of, arity-at, part-at, tag-of, symbol-of, flag-of, Parts-written, Slot-written};
 ghost use mathlib.Core.Bool.{false};
 use crate::types::Key;
 
@@ -12,7 +12,7 @@ pub const SLOT: usize = 16;
 
 pub const HEAD: usize = 0;
 
-pub const PARTS: usize = 1;
+const PARTS: usize = 1;
 
 pub const LINK: usize = 5;
 
@@ -21,7 +21,7 @@ pub const LAST: usize = 6;
 pub const NOTE: usize = 7;
 
 // A word has 32 bits. In a head the number of parts stands above the symbol, and the flag above that.
-const WORD: usize = 4294967296;
+pub const WORD: usize = 4294967296;
 
 pub const FLAG: usize = 8 * WORD;
 
@@ -41,6 +41,14 @@ pub fn put(ws: &mut [u32], i: usize, k: usize, v: usize)
     let low = SLOT * i + 2 * k;
     ws[low] = (v % WORD) as u32;
     ws[low + 1] = (v / WORD) as u32;
+}
+
+// Part k of slot i.
+pub fn part(ws: &[u32], i: usize, k: usize) -> usize
+    requires { ⌜ Has-slot (now ws) i ⌝ ∗ ⌜ k < 4 ⌝ }
+    ensures { λ r. ⌜ r ≡ part-at (now (ws .entry)) i k ⌝ }
+{
+    get(ws, i, k + PARTS)
 }
 
 // Clears cell k of the first n slots.
@@ -105,7 +113,7 @@ fn put_parts(ws: &mut [u32], n: usize, ps: &[usize; 4])
     ensures { λ _. ⌜ Parts-written (now (ws .entry)) n (now (ps .entry)) 4 (now (ws .exit)) ⌝ }
 {
     for k in 0..4 {
-        put(ws, n, PARTS + k, ps[k]);
+        put(ws, n, k + PARTS, ps[k]);
     }
 }
 
