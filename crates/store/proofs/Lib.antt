@@ -7,3 +7,6 @@ pub mod Chaining
 pub mod Marking
 pub mod Sliding
 pub mod Collecting
+pub mod Viewing
+pub mod Placing
+pub mod Keeping

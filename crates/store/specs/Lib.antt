@@ -5,3 +5,6 @@ pub mod Chains
 pub mod Marks
 pub mod Slides
 pub mod Roots
+pub mod Stacks
+pub mod Stores
+pub mod Making
