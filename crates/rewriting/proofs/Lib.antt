@@ -27,3 +27,6 @@ pub mod Sums
 pub mod Bindings
 pub mod Waying
 pub mod Verdicts
+-- the number of different parts
+pub mod Members
+pub mod Different

@@ -2,6 +2,7 @@
 pub mod Answers
 pub mod Terms
 pub mod Rules
+pub mod Different
 pub mod Order
 pub mod Overlaps
 pub mod Books

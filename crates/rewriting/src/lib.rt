@@ -1,6 +1,7 @@
 // The theory of rewriting that judging rests on: each function carries one theorem as its contract, and does nothing.
 ghost use Rattle.rewriting.specs.Theorems.{Heights, Made-one, Order-ends, Order-kept};
 ghost use Rattle.rewriting.specs.Theorems.{Down-ends, Overlaps-tell, Peaks-tell, Settled, Told-by-pairs};
+ghost use Rattle.rewriting.specs.Different.{Different-counts};
 ghost use Rattle.rewriting.specs.Sums.{Sums-worked};
 
 // The path order has no endless way down.
@@ -51,4 +52,9 @@ pub fn settled()
 // Sums of numbers as a worked example.
 pub fn sums_worked()
     ensures { λ _. ⌜ Sums-worked ⌝ }
+{}
+
+// What the number of different parts of terms is.
+pub fn different_counts()
+    ensures { λ _. ⌜ Different-counts ⌝ }
 {}
