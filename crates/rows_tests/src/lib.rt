@@ -10,11 +10,65 @@ mod tests {
 
     // Signs zero, next and plus; two equations, and the same as rules.
     const SUMS: [u32; 57] = [
-        3, 0, 1, 2, 0, 1, 2, 2, 2, // signs, their parts and ranks, equations, rules
-        1, 2, 1, 0, 0, 1, 0, 1, // plus(zero, y) = y
-        1, 2, 1, 1, 0, 0, 0, 1, 1, 1, 1, 2, 0, 0, 0, 1, // plus(next(x), y) = next(plus(x, y))
-        1, 2, 1, 0, 0, 1, 0, 1, 1, 2, 1, 1, 0, 0, 0, 1, 1, 1, 1, 2, 0, 0, 0, 1,
+        3,
+        0,
+        1,
+        2,
+        0,
+        1,
+        2,
+        2,
+        2, // signs, their parts and ranks, equations, rules
+        1,
+        2,
+        1,
+        0,
+        0,
+        1,
+        0,
+        1, // plus(zero, y) = y
+        1,
+        2,
+        1,
+        1,
+        0,
+        0,
+        0,
+        1,
+        1,
+        1,
+        1,
+        2,
+        0,
+        0,
+        0,
+        1, // plus(next(x), y) = next(plus(x, y))
+        1,
+        2,
+        1,
+        0,
+        0,
+        1,
+        0,
+        1,
+        1,
+        2,
+        1,
+        1,
+        0,
+        0,
+        0,
+        1,
+        1,
+        1,
+        1,
+        2,
+        0,
+        0,
+        0,
+        1,
     ];
+
     const PARTS: [u32; 3] = [0, 1, 2];
 
     // Whether sums with one word changed are still read as a book.
