@@ -5,9 +5,10 @@ use Prim.Native.Nat.{ℕ, zero, suc, _+_, _*_, _≤_, _<_}
 use native.Mathlib.Omega.{arith}
 use native.Mathlib.Numerals.{one-add}
 use lib.ListN.{length, length-append}
-use Rattle.rewriting.specs.Terms.{Term, letter, sign, Terms, none1, and1, count, size, sizes, Over, All-over}
+use Rattle.rewriting.specs.Terms.{Term, letter, sign, Terms, none1, and1, glue, count, size, sizes, Over, All-over}
+use Rattle.rewriting.proofs.Framing.{count-glue}
 use Rattle.books.specs.Rows.{row, rows}
-use Rattle.books.specs.Reading.{glue, first, others}
+use Rattle.books.specs.Reading.{first, others}
 
 pub glue-none : (ts : Terms) → glue ts none1 ≡ ts
 glue-none none1 = refl
@@ -25,10 +26,6 @@ pub glue-split : (n : ℕ) (ts : Terms) → glue (first n ts) (others n ts) ≡ 
 glue-split zero ts = refl
 glue-split (suc n) none1 = refl
 glue-split (suc n) (and1 t ts) = ap (and1 t) (glue-split n ts)
-
-pub count-glue : (ts us : Terms) → count (glue ts us) ≡ count ts + count us
-count-glue none1 us = omega arith
-count-glue (and1 t ts) us = omega (arith, count-glue ts us)
 
 pub count-first : (n : ℕ) (ts : Terms) → n ≤ count ts → count (first n ts) ≡ n
 count-first zero ts h = refl

@@ -8,9 +8,9 @@ use native.Mathlib.Omega.{arith}
 use native.Mathlib.Nat.{zero-add}
 use lib.ListN.{length, length-append}
 use lib.Dec.{T, ltb, ltb→lt, lt→ltb}
-use Rattle.rewriting.specs.Terms.{nth, Term, letter, sign, Terms, none1, and1, count, size, sizes, Over, All-over}
+use Rattle.rewriting.specs.Terms.{nth, Term, letter, sign, Terms, none1, and1, glue, count, size, sizes, Over, All-over}
 use Rattle.books.specs.Rows.{row, rows}
-use Rattle.books.specs.Reading.{Allowed, allowed, opens, glue, first, others}
+use Rattle.books.specs.Reading.{Allowed, allowed, opens, first, others}
 use Rattle.books.specs.Reading.{Found, symbol, topped, opened, read, left-of, terms-of}
 use Rattle.books.specs.declared.words.Letters.{Letters}
 use Rattle.books.specs.declared.words.Letters.the-variants.{Small, Any}

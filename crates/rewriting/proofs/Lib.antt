@@ -30,3 +30,9 @@ pub mod Verdicts
 -- the number of different parts
 pub mod Members
 pub mod Different
+-- the machine
+pub mod Framing
+pub mod Moving
+pub mod Costing
+pub mod Depth
+pub mod Asking
