@@ -36,3 +36,5 @@ pub mod Moving
 pub mod Costing
 pub mod Depth
 pub mod Asking
+-- matching by turns
+pub mod Patterns

@@ -8,6 +8,7 @@ pub mod Overlaps
 pub mod Books
 pub mod Ways
 pub mod Theorems
+pub mod Matching
 pub mod Machine
 pub mod Machine-theorems
 pub mod Sums

@@ -3,6 +3,7 @@ ghost use Rattle.rewriting.specs.Theorems.{Heights, Made-one, Order-ends, Orde
 ghost use Rattle.rewriting.specs.Theorems.{Down-ends, Overlaps-tell, Peaks-tell, Settled, Told-by-pairs};
 ghost use Rattle.rewriting.specs.Different.{Different-counts};
 ghost use Rattle.rewriting.specs.Sums.{Sums-worked};
+ghost use Rattle.rewriting.specs.Matching.{Matching-works};
 ghost use Rattle.rewriting.specs.Machine-theorems.{Machine-steps, Machine-valid, Machine-cost, Machine-ends};
 ghost use Rattle.rewriting.specs.Machine-theorems.{Machine-room, Machine-places, Machine-remembers};
 
@@ -94,4 +95,9 @@ pub fn machine_places()
 // A normal form that is reached is that of the term that was asked for.
 pub fn machine_remembers()
     ensures { λ _. ⌜ Machine-remembers ⌝ }
+{}
+
+// Matching by turns comes to the bindings by which a term is had from a pattern, or shows that there are none.
+pub fn matching_works()
+    ensures { λ _. ⌜ Matching-works ⌝ }
 {}
