@@ -6,7 +6,7 @@ use native.Mathlib.Omega.{arith}
 use native.Mathlib.Numerals.{one-add}
 use lib.ListN.{length, length-append}
 use Rattle.rewriting.specs.Terms.{Term, letter, sign, Terms, none1, and1, glue, count, size, sizes, Over, All-over}
-use Rattle.rewriting.proofs.Framing.{count-glue}
+use Rattle.rewriting.proofs.Glueing.{count-glue}
 use Rattle.books.specs.Rows.{row, rows}
 use Rattle.books.specs.Reading.{first, others}
 
@@ -48,14 +48,6 @@ mutual
   pub rows-length : (ts : Terms) → length (rows ts) ≡ 2 * sizes ts
   rows-length none1 = refl
   rows-length (and1 t ts) = length-append (row t) (rows ts) ∙ omega (arith, row-length t, rows-length ts)
-
-pub size-some : (t : Term) → 1 ≤ size t
-size-some (letter x) = omega arith
-size-some (sign f ts) = omega arith
-
-pub count-sizes : (ts : Terms) → count ts ≤ sizes ts
-count-sizes none1 = omega arith
-count-sizes (and1 t ts) = omega (arith, size-some t, count-sizes ts)
 
 module _ (L : ℕ → Type 0) (ps : List ℕ) where
   pub over-glue : (ts us : Terms) → All-over L ps ts → All-over L ps us → All-over L ps (glue ts us)

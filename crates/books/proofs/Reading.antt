@@ -15,7 +15,7 @@ use Rattle.books.specs.Reading.{Found, symbol, topped, opened, read, left-of, 
 use Rattle.books.specs.declared.words.Letters.{Letters}
 use Rattle.books.specs.declared.words.Letters.the-variants.{Small, Any}
 use Rattle.books.proofs.Glueing.{glue-none, first-glue, others-glue, glue-split, count-first, count-others, rows-glue}
-use Rattle.books.proofs.Glueing.{rows-length, count-sizes, over-first, over-others}
+use Rattle.books.proofs.Glueing.{over-first, over-others}
 
 pub no-some : {A : Type 0} {a : A} → none ≡ some a → ⊥
 no-some e = let z : _≡_ {A = ℕ} 0 1 = cc in omega arith

@@ -12,8 +12,10 @@ use Rattle.rewriting.specs.Books.{Book, Fine}
 use Rattle.rewriting.specs.Machine.{Frame, frame, eval, back, apply, State, state, frames, focal, around, plug, whole}
 use Rattle.rewriting.specs.Machine.{before, held-frames, held, places}
 use Rattle.rewriting.specs.Machine-theorems.{Machine-room, Machine-places}
+use Rattle.rewriting.proofs.Replacing.{put-part, letter-part}
 use Rattle.rewriting.proofs.Different.{part-trans, different-most, different-mono, different-both}
-use Rattle.rewriting.proofs.Framing.{around-size, glue-before, glue-after, part-plug, plug-fits, few-places}
+use Rattle.rewriting.proofs.Glueing.{glue-before, glue-after}
+use Rattle.rewriting.proofs.Framing.{around-size, part-plug, plug-fits, few-places}
 
 -- the term at a depth: of the focus at 0, and each around the one before; they grow, and are parts of the whole
 spine : List Frame → Term → ℕ → Term
@@ -101,6 +103,8 @@ pub machine-room : Machine-room
 machine-room = record {
   depth = depth;
   focus-part = λ ks t v p. part-plug ks p;
+  put-part = λ s t v p. put-part s p;
+  letter-part = λ x t i. letter-part i;
   held-part = held-part;
   holds = held-few;
   holds-beside = held-beside;

@@ -3,6 +3,7 @@
 pub mod Choosing
 pub mod Replacing
 pub mod Letters
+pub mod Glueing
 pub mod Signature
 pub mod Cleaning
 pub mod Comparing
@@ -25,6 +26,7 @@ pub mod Settling
 pub mod Sums
 -- what programs use
 pub mod Bindings
+pub mod Patterns
 pub mod Waying
 pub mod Verdicts
 -- the number of different parts
@@ -36,5 +38,3 @@ pub mod Moving
 pub mod Costing
 pub mod Depth
 pub mod Asking
--- matching by turns
-pub mod Patterns

@@ -51,6 +51,10 @@ move-steps {rs} {x} {y} m = elim (move-whole m) [
   | inr l ↦ leads-steps l
 ]
 
+pub moves-on : {rs : List Eq} {x y z : State} → Moves rs x y → Moves rs y z → Moves rs x z
+moves-on rest k = k
+moves-on (move m ms) k = move m (moves-on ms k)
+
 pub moves-steps : {rs : List Eq} {x y : State} → Moves rs x y → Steps rs (whole x) (whole y)
 moves-steps rest = stay
 moves-steps (move m ms) = trans (move-steps m) (moves-steps ms)
@@ -130,4 +134,5 @@ machine-valid b fine down = record {
   move = λ x y m v. move-valid b fine down m v;
   moves = λ x y ms v. moves-valid b fine down ms v;
   done = λ v h. h .focus-done;
+  result = λ t v f ms. (moves-steps ms, moves-valid b fine down ms (start-valid b t f) .focus-done);
 }

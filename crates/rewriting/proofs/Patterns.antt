@@ -2,37 +2,19 @@
 use mathlib.Core.Path.{_≡_, refl, sym, _∙_, ap, subst}
 use mathlib.Core.Logic.{_⊎_, inl, inr, _↔_}
 use mathlib.Core.Option.{Option, some, none}
-use Prim.Native.Nat.{ℕ, _+_, _<_, _≤_}
+use Prim.Native.Nat.{ℕ, _<_}
 use native.Mathlib.Omega.{arith}
 use native.Mathlib.Decide.{ℕ-discrete}
-use Rattle.rewriting.specs.Terms.{Term, letter, sign, Terms, none1, and1, put, puts, size, sizes, count, glue, In, is, part, Ins, here, there}
+use Rattle.rewriting.specs.Terms.{Term, letter, sign, Terms, none1, and1, put, puts, count, glue, In}
 use Rattle.rewriting.specs.Matching.{Bindings, Agrees, or-letter, bound-to, Task, task, matching, matched, Solves, Even, left-over}
 use Rattle.rewriting.specs.Matching.{Turn, binds, is-bound, same-sign, Turns, rest, turn}
 use Rattle.rewriting.specs.Matching.{Fails, bound-otherwise, no-sign, other-sign, other-count, Turns-work, Matching-works}
 use Rattle.rewriting.proofs.Choosing.{no-some}
 use Rattle.rewriting.proofs.Replacing.{put-agree, count-puts, change, change-has, change-here}
-use Rattle.rewriting.proofs.Comparing.{letter-not-sign, none-not-and, dec-term}
+use Rattle.rewriting.proofs.Comparing.{letter-not-sign, dec-term}
 use Rattle.rewriting.proofs.Matching.{found, found-in}
-use Rattle.rewriting.proofs.Framing.{count-glue}
+use Rattle.rewriting.proofs.Glueing.{count-glue, sizes-glue, count-sizes, puts-glue, glue-apart}
 use Rattle.rewriting.proofs.Bindings.{bind, bind-here, bind-other}
-
--- glued terms
-puts-glue : (s : ℕ → Term) (ls ks : Terms) → puts s (glue ls ks) ≡ glue (puts s ls) (puts s ks)
-puts-glue s none1 ks = refl
-puts-glue s (and1 l ls) ks = ap (and1 (put s l)) (puts-glue s ls ks)
-
-sizes-glue : (ls ks : Terms) → sizes (glue ls ks) ≡ sizes ls + sizes ks
-sizes-glue none1 ks = omega arith
-sizes-glue (and1 l ls) ks = omega (arith, sizes-glue ls ks)
-
-glue-split : (as1 bs cs ds : Terms) → count as1 ≡ count bs → glue as1 cs ≡ glue bs ds → (as1 ≡ bs) × (cs ≡ ds)
-glue-split none1 none1 cs ds n e = (refl, e)
-glue-split none1 (and1 b bs) cs ds n e = absurd (omega arith)
-glue-split (and1 a as1) none1 cs ds n e = absurd (omega arith)
-glue-split (and1 a as1) (and1 b bs) cs ds n e =
-    let d : glue as1 cs ≡ glue bs ds = cc in
-    let (p, q) = glue-split as1 bs cs ds (omega arith) d in
-    let h : a ≡ b = cc in (cc, q)
 
 -- a turn keeps what solves the task
 module _ (s : ℕ → Term) where
@@ -63,7 +45,7 @@ module _ (s : ℕ → Term) where
       let e : s x ≡ t = h .0 x t is-t in let d = h .1 in (binds-back σ τ x free others (h .0), cc)
   back (is-bound {x = x} {t = t} e) h = let d : s x ≡ t = h .0 x t e in let k = h .1 in (h .0, cc)
   back (same-sign {ps = ps} {us = us} {ls = ls} {ts = ts} n) h =
-      let (p, q) = glue-split (puts s ps) us (puts s ls) ts (count-puts s ps ∙ n) (sym (puts-glue s ps ls) ∙ h .1) in (h .0, cc)
+      let (p, q) = glue-apart (puts s ps) us (puts s ls) ts (count-puts s ps ∙ n) (sym (puts-glue s ps ls) ∙ h .1) in (h .0, cc)
 
   kept : {x y : Task} → Turns x y → Solves s x ↔ Solves s y
   kept rest = (λ h. h, λ h. h)
@@ -75,6 +57,10 @@ module _ (s : ℕ → Term) where
   fails (other-sign n) h = let d = h .1 in n (cc)
   fails (other-count {ps = ps} {us = us} n) h =
       let d = h .1 in let e : puts s ps ≡ us = cc in n (sym (count-puts s ps) ∙ ap count e)
+
+pub turns-on : {x y z : Task} → Turns x y → Turns y z → Turns x z
+turns-on rest k = k
+turns-on (turn t ts) k = turn t (turns-on ts k)
 
 -- there is a turn, or it fails, until nothing is left
 turn-or-fails : (x : Task) → Even x → ((σ : Bindings) × (x ≡ matched σ)) ⊎ (((y : Task) × Turn x y) ⊎ Fails x)
@@ -98,8 +84,10 @@ turn-or-fails (task σ (and1 (sign f ps) ls) (and1 (sign g us) ts)) e = inr (tol
     told : Dec (f ≡ g) → Dec (count ps ≡ count us) → ((y : Task) × Turn (task σ (and1 (sign f ps) ls) (and1 (sign g us) ts)) y)
         ⊎ Fails (task σ (and1 (sign f ps) ls) (and1 (sign g us) ts))
     told (no n) d = inr (other-sign n)
-    told (yes e) (yes d) = inl (task σ (glue ps ls) (glue us ts),
-        subst (λ (h : ℕ). Turn (task σ (and1 (sign f ps) ls) (and1 (sign h us) ts)) (task σ (glue ps ls) (glue us ts))) e (same-sign d))
+    told (yes e) (yes d) = inl (
+      task σ (glue ps ls) (glue us ts),
+      subst (λ (h : ℕ). Turn (task σ (and1 (sign f ps) ls) (and1 (sign h us) ts)) (task σ (glue ps ls) (glue us ts))) e (same-sign d),
+    )
     told (yes e) (no n) = inr (subst (λ (h : ℕ). Fails (task σ (and1 (sign f ps) ls) (and1 (sign h us) ts))) e (other-count n))
 
 stays-even : {x y : Task} → Turn x y → Even x → Even y
@@ -111,11 +99,6 @@ turn-falls : {x y : Task} → Turn x y → left-over y < left-over x
 turn-falls (binds free is-t others) = omega arith
 turn-falls (is-bound h) = omega arith
 turn-falls (same-sign {ps = ps} {ls = ls} n) = omega (arith, sizes-glue ps ls)
-
-few-left : (ls : Terms) → count ls ≤ sizes ls
-few-left none1 = omega arith
-few-left (and1 (letter x) ls) = omega (arith, few-left ls)
-few-left (and1 (sign f ps) ls) = omega (arith, few-left ls)
 
 -- one pattern and one term
 agrees-bound : (σ : Bindings) → Agrees (bound-to σ) σ
@@ -163,7 +146,7 @@ turns-work = record {
   next = turn-or-fails;
   even = λ x y h. stays-even h;
   falls = λ x y h. turn-falls h;
-  few = few-left;
+  few = count-sizes;
 }
 
 pub matching-works : Matching-works

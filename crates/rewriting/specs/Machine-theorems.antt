@@ -4,7 +4,7 @@ use mathlib.Core.Logic.{_⊎_}
 use mathlib.Core.List.{List, [], _∷_, _++_}
 use Prim.Native.Nat.{ℕ, suc, _+_, _*_, _<_, _≤_}
 use lib.ListN.{length}
-use Rattle.rewriting.specs.Terms.{Term, letter, sign, Terms, none1, and1, Fits}
+use Rattle.rewriting.specs.Terms.{Term, letter, sign, Terms, none1, and1, put, In, Fits}
 use Rattle.rewriting.specs.Rules.{Eq, Step, Steps, Done, Part}
 use Rattle.rewriting.specs.Different.{different, Part-of, listed}
 use Rattle.rewriting.specs.Order.{rank, All-down}
@@ -27,6 +27,7 @@ pub record Stays-valid (b : Book) : Type 0 where
   pub move : (x y : State) → Move (b .rules) x y → Valid b x → Valid b y
   pub moves : (x y : State) → Moves (b .rules) x y → Valid b x → Valid b y
   pub done : (v : Term) → Valid b (finished v) → Done (b .rules) v
+  pub result : (t v : Term) → Fits (b .parts) t → Moves (b .rules) (start t) (finished v) → Steps (b .rules) t v × Done (b .rules) v
 
 abbrev pub Machine-valid : Type 0
 Machine-valid = (b : Book) → Fine b → All-down (rank (b .ranks)) (b .rules) → Stays-valid b
@@ -48,11 +49,13 @@ pub record Goes-on (b : Book) : Type 0 where
 abbrev pub Machine-ends : Type 0
 Machine-ends = (b : Book) → Fine b → All-down (rank (b .ranks)) (b .rules) → Goes-on b
 
--- how much a state holds, against the different parts of the whole: frames; the parts of what it holds, also beside other terms;
--- and the same of any terms that are parts of the whole, or of the whole or another
+-- how much a state holds, against the different parts of the whole: frames, and the parts of what it holds, also beside other terms;
+-- and the same of any terms that are parts of a term, such as those that are made for a rule's right side, or of one of two
 pub record Machine-room : Type 0 where
   pub depth : (x : State) → length (frames x) < different (whole x ∷ [])
   pub focus-part : (ks : List Frame) (t v : Term) → Part v t → Part v (plug ks t)
+  pub put-part : (s : ℕ → Term) (t v : Term) → Part v t → Part (put s v) (put s t)
+  pub letter-part : (x : ℕ) (t : Term) → In x t → Part (letter x) t
   pub held-part : (x : State) (v : Term) → Part-of v (held x) → Part v (whole x)
   pub holds : (x : State) → different (held x) ≤ different (whole x ∷ [])
   pub holds-beside : (us : List Term) (x : State) → different (us ++ held x) ≤ different us + different (whole x ∷ [])
