@@ -63,32 +63,39 @@ turns-on rest k = k
 turns-on (turn t ts) k = turn t (turns-on ts k)
 
 -- there is a turn, or it fails, until nothing is left
-turn-or-fails : (x : Task) → Even x → ((σ : Bindings) × (x ≡ matched σ)) ⊎ (((y : Task) × Turn x y) ⊎ Fails x)
-turn-or-fails (task σ none1 none1) e = inl (σ, refl)
-turn-or-fails (task σ none1 (and1 t ts)) e = absurd (omega arith)
-turn-or-fails (task σ (and1 l ls) none1) e = absurd (omega arith)
-turn-or-fails (task σ (and1 (letter x) ls) (and1 t ts)) e = inr (told (σ x) refl)
+abbrev Goes : Task → Type 0
+Goes x = ((y : Task) × Turn x y) ⊎ Fails x
+
+letter-goes : (σ : Bindings) (x : ℕ) (ls : Terms) (t : Term) (ts : Terms) → Goes (task σ (and1 (letter x) ls) (and1 t ts))
+letter-goes σ x ls t ts = told (σ x) refl
   where
-    compared : (u : Term) → σ x ≡ some u → Dec (u ≡ t) → ((y : Task) × Turn (task σ (and1 (letter x) ls) (and1 t ts)) y)
-        ⊎ Fails (task σ (and1 (letter x) ls) (and1 t ts))
+    compared : (u : Term) → σ x ≡ some u → Dec (u ≡ t) → Goes (task σ (and1 (letter x) ls) (and1 t ts))
     compared u h (yes d) = inl (task σ ls ts, is-bound (h ∙ ap some d))
     compared u h (no n) = inr (bound-otherwise h n)
 
-    told : (o : Option Term) → σ x ≡ o → ((y : Task) × Turn (task σ (and1 (letter x) ls) (and1 t ts)) y)
-        ⊎ Fails (task σ (and1 (letter x) ls) (and1 t ts))
+    told : (o : Option Term) → σ x ≡ o → Goes (task σ (and1 (letter x) ls) (and1 t ts))
     told none h = inl (task (bind σ x t) ls ts, binds h (bind-here σ x t) (λ y n. bind-other σ x t y n))
     told (some u) h = compared u h (dec-term u t)
-turn-or-fails (task σ (and1 (sign f ps) ls) (and1 (letter x) ts)) e = inr (inr no-sign)
-turn-or-fails (task σ (and1 (sign f ps) ls) (and1 (sign g us) ts)) e = inr (told (ℕ-discrete f g) (ℕ-discrete (count ps) (count us)))
+
+sign-goes : (σ : Bindings) (f : ℕ) (ps ls : Terms) (t : Term) (ts : Terms) → Goes (task σ (and1 (sign f ps) ls) (and1 t ts))
+sign-goes σ f ps ls (letter x) ts = inr no-sign
+sign-goes σ f ps ls (sign g us) ts = told (ℕ-discrete f g)
   where
-    told : Dec (f ≡ g) → Dec (count ps ≡ count us) → ((y : Task) × Turn (task σ (and1 (sign f ps) ls) (and1 (sign g us) ts)) y)
-        ⊎ Fails (task σ (and1 (sign f ps) ls) (and1 (sign g us) ts))
-    told (no n) d = inr (other-sign n)
-    told (yes e) (yes d) = inl (
-      task σ (glue ps ls) (glue us ts),
-      subst (λ (h : ℕ). Turn (task σ (and1 (sign f ps) ls) (and1 (sign h us) ts)) (task σ (glue ps ls) (glue us ts))) e (same-sign d),
-    )
-    told (yes e) (no n) = inr (subst (λ (h : ℕ). Fails (task σ (and1 (sign f ps) ls) (and1 (sign h us) ts))) e (other-count n))
+    counted : Dec (count ps ≡ count us) → Goes (task σ (and1 (sign f ps) ls) (and1 (sign f us) ts))
+    counted (yes d) = inl (task σ (glue ps ls) (glue us ts), same-sign d)
+    counted (no n) = inr (other-count n)
+
+    told : Dec (f ≡ g) → Goes (task σ (and1 (sign f ps) ls) (and1 (sign g us) ts))
+    told (yes e) = subst (λ (h : ℕ). Goes (task σ (and1 (sign f ps) ls) (and1 (sign h us) ts))) e
+        (counted (ℕ-discrete (count ps) (count us)))
+    told (no n) = inr (other-sign n)
+
+next-turn : (x : Task) → Even x → ((σ : Bindings) × (x ≡ matched σ)) ⊎ Goes x
+next-turn (task σ none1 none1) e = inl (σ, refl)
+next-turn (task σ none1 (and1 t ts)) e = absurd (omega arith)
+next-turn (task σ (and1 l ls) none1) e = absurd (omega arith)
+next-turn (task σ (and1 (letter x) ls) (and1 t ts)) e = inr (letter-goes σ x ls t ts)
+next-turn (task σ (and1 (sign f ps) ls) (and1 t ts)) e = inr (sign-goes σ f ps ls t ts)
 
 stays-even : {x y : Task} → Turn x y → Even x → Even y
 stays-even (binds free is-t others) e = omega arith
@@ -143,7 +150,7 @@ turns-work : Turns-work
 turns-work = record {
   kept = λ x y ts s. kept s ts;
   fails = λ x f s. fails s f;
-  next = turn-or-fails;
+  next = next-turn;
   even = λ x y h. stays-even h;
   falls = λ x y h. turn-falls h;
   few = count-sizes;

@@ -61,10 +61,12 @@ Still rs t = (i : ℕ) (r : Eq) → nth rs i ≡ some r → (s : ℕ → Term) �
 
 -- one move. Which rule is used, whether at once or when the parts are done, and where a known normal form is taken, is left open
 pub data Move (rs : List Eq) : State → State → Type 0 where
-  -- a term whose normal form is known: it is one itself, or its normal form is remembered
+  -- its normal form is known: it is one itself, or the normal form is remembered
   known : {ks : List Frame} {t v : Term} → Steps rs t v → Done rs v → Move rs (state ks (eval t)) (state ks (back v))
+  -- by a rule before its parts are looked at
   at-once : {ks : List Frame} {t : Term} (i : ℕ) (r : Eq) (s : ℕ → Term) → nth rs i ≡ some r → put s (r .left) ≡ t →
       Move rs (state ks (eval t)) (state ks (eval (put s (r .right))))
+  -- to its parts, from one to the next, and back to the sign
   no-parts : {ks : List Frame} {f : ℕ} → Move rs (state ks (eval (sign f none1))) (state ks (apply f none1))
   go-in : {ks : List Frame} {f : ℕ} {t : Term} {ts : Terms} →
       Move rs (state ks (eval (sign f (and1 t ts)))) (state (frame f none1 ts ∷ ks) (eval t))
@@ -72,6 +74,7 @@ pub data Move (rs : List Eq) : State → State → Type 0 where
       Move rs (state (frame f bs (and1 t ts) ∷ ks) (back v)) (state (frame f (behind bs v) ts ∷ ks) (eval t))
   go-out : {ks : List Frame} {f : ℕ} {bs : Terms} {v : Term} →
       Move rs (state (frame f bs none1 ∷ ks) (back v)) (state ks (apply f (behind bs v)))
+  -- with its parts done: the normal form is known; by a rule; or it is one itself
   known-sign : {ks : List Frame} {f : ℕ} {ts : Terms} {v : Term} → Steps rs (sign f ts) v → Done rs v →
       Move rs (state ks (apply f ts)) (state ks (back v))
   by-rule : {ks : List Frame} {f : ℕ} {ts : Terms} (i : ℕ) (r : Eq) (s : ℕ → Term) → nth rs i ≡ some r → put s (r .left) ≡ sign f ts →
