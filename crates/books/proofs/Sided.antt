@@ -5,11 +5,11 @@ use mathlib.Core.Option.{Option, some, none}
 use Prim.Native.Nat.{ℕ, zero, suc, _+_, _*_, _≤_, _<_}
 use native.Mathlib.Omega.{arith}
 use lib.ListN.{length}
-use Rattle.rewriting.specs.Terms.{nth, Term, Terms, none1, and1, count, size, Over, All-over, Small-letter}
+use Rattle.rewriting.specs.Terms.{nth, Term, Terms, none1, and1, glue, count, size, Over, All-over, Small-letter}
 use Rattle.rewriting.specs.Rules.{Eq}
 use Rattle.rewriting.specs.Books.{Sides, All-sides}
 use Rattle.books.specs.Rows.{row, rows, rowEs, rowTerms}
-use Rattle.books.specs.Reading.{glue, first, others, paired}
+use Rattle.books.specs.Reading.{first, others, paired}
 use Rattle.books.specs.Layouts.{sides, listed, Short}
 use Rattle.books.proofs.Reading.{no-some}
 

@@ -12,14 +12,16 @@ use lib.ListN.{length, getD, set, drop, replicate, length-drop, length-set}
 use lib.Seq.{getD-drop, drop-drop, getD-set-same, getD-set-other}
 use Rattle.std.specs.declared.option.Option.{Option as Maybe}
 use Rattle.std.specs.declared.option.Option.the-variants.{Some, None}
-use Rattle.rewriting.specs.Terms.{nth, Term, letter, sign, Terms, none1, and1, count, size, sizes, put, puts, In, Ins, is, part, here, there}
+use Rattle.rewriting.specs.Terms.{nth, Term, letter, sign, Terms, none1, and1, glue, count, size, sizes}
+use Rattle.rewriting.specs.Terms.{put, puts, In, Ins, is, part, here, there}
 use Rattle.rewriting.specs.Terms.{Over, All-over, Small-letter, Any-letter}
 use Rattle.books.specs.Rows.{row, rows}
-use Rattle.books.specs.Reading.{glue, tag, number, Symbol-at, Term-at}
+use Rattle.books.specs.Reading.{tag, number, Symbol-at, Term-at}
 use Rattle.books.specs.declared.words.Symbol.{Symbol}
 use Rattle.books.specs.declared.words.Symbol.the-variants.{Letter, Sign}
-use Rattle.books.proofs.Glueing.{first-glue, others-glue, count-glue, over-glue, count-sizes, size-some}
-use Rattle.books.specs.Reading.{first, others}
+use Rattle.books.proofs.Glueing.{over-glue}
+use Rattle.rewriting.proofs.Glueing.{count-glue, count-sizes, size-some, puts-glue, glue-apart}
+use Rattle.rewriting.proofs.Replacing.{count-puts}
 use Rattle.books.proofs.Forests.{opened, behind, behind-sizes, behind-rows, behind-over}
 use Rattle.store.specs.declared.types.Store.{Store}
 use Rattle.store.specs.declared.types.Place.{Place}
@@ -31,25 +33,13 @@ use Rattle.engine.specs.Matching.{stacked, Places-inside, Single, Popped, Push
 use Rattle.engine.specs.Matching.{Matching-with, Matching, Turned}
 use Rattle.engine.proofs.Pendings.{zero-place}
 
--- replacing in terms behind terms; letters there; terms behind equally many terms
-pub puts-glue : (s : ℕ → Term) (us vs : Terms) → puts s (glue us vs) ≡ glue (puts s us) (puts s vs)
-puts-glue s none1 vs = refl
-puts-glue s (and1 u us) vs = ap (and1 (put s u)) (puts-glue s us vs)
-
-count-puts : (s : ℕ → Term) (us : Terms) → count (puts s us) ≡ count us
-count-puts s none1 = refl
-count-puts s (and1 u us) = omega (arith, count-puts s us)
-
+-- letters in terms behind terms
 ins-glue : {x : ℕ} (us vs : Terms) → Ins x us ⊎ Ins x vs → Ins x (glue us vs)
 ins-glue none1 vs (inl i) = elim i [ ]
 ins-glue none1 vs (inr i) = i
 ins-glue (and1 u us) vs (inl (here i)) = here i
 ins-glue (and1 u us) vs (inl (there i)) = there (ins-glue us vs (inl i))
 ins-glue (and1 u us) vs (inr i) = there (ins-glue us vs (inr i))
-
-glue-both : (us ws vs xs : Terms) → count us ≡ count ws → glue us vs ≡ glue ws xs → (us ≡ ws) × (vs ≡ xs)
-glue-both us ws vs xs c e =
-    (sym (first-glue us vs) ∙ (ap₂ first c e ∙ first-glue ws xs), sym (others-glue us vs) ∙ (ap₂ others c e ∙ others-glue ws xs))
 
 -- a binding that is new
 module _ (st : Store) (b c : Bindings) (x : ℕ) (p : Place) (low : x < length (b .at)) (fresh : bound b x ≡ None)
@@ -239,7 +229,7 @@ module _ (ps ws : List ℕ) (to : ℕ) (l t : Term) (st : Store) (a : ℕ) (q : 
         fit-parts = subst (Over Any-letter ps) e (both-fit (and1 (sign f vs) us) m .0)
 
         split : (s : ℕ → Term) → puts s (glue vs us) ≡ stacked st (r2 .places) (r2 .len) → (puts s vs ≡ ts) × (puts s us ≡ stacked st (r .places) (r .len))
-        split s g = glue-both (puts s vs) ts (puts s us) (stacked st (r .places) (r .len)) (count-puts s vs ∙ counts)
+        split s g = glue-apart (puts s vs) ts (puts s us) (stacked st (r .places) (r .len)) (count-puts s vs ∙ counts)
             (sym (puts-glue s vs us) ∙ (g ∙ d .terms))
 
         join : (s : ℕ → Term) → put s (sign f vs) ≡ term-in st (p .0) → puts s us ≡ stacked st (r .places) (r .len) →

@@ -8,8 +8,7 @@ use native.Mathlib.Decide.{decLt}
 use native.Mathlib.Numerals.{add-one}
 use lib.ListN.{length, getD, set, length-set}
 use lib.Seq.{getD-set-same, getD-set-other}
-use Rattle.rewriting.specs.Terms.{Term, Terms, none1, and1, count}
-use Rattle.books.specs.Reading.{glue}
+use Rattle.rewriting.specs.Terms.{Term, Terms, none1, and1, glue, count}
 use Rattle.store.specs.declared.types.Store.{Store}
 use Rattle.store.specs.declared.types.Place.{Place}
 use Rattle.store.specs.Slots.{parts-by}

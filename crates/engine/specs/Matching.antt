@@ -7,10 +7,9 @@ use Prim.Native.Nat.{ℕ, zero, suc, _+_, _*_, _<_, _≤_}
 use lib.ListN.{length, getD, set, drop}
 use Rattle.std.specs.declared.option.Option.{Option as Maybe}
 use Rattle.std.specs.declared.option.Option.the-variants.{Some, None}
-use Rattle.rewriting.specs.Terms.{Term, letter, sign, Terms, none1, and1, count, sizes, put, puts, In, Ins}
+use Rattle.rewriting.specs.Terms.{Term, letter, sign, Terms, none1, and1, glue, count, sizes, put, puts, In, Ins}
 use Rattle.rewriting.specs.Terms.{All-over, Small-letter, Any-letter}
 use Rattle.books.specs.Rows.{rows}
-use Rattle.books.specs.Reading.{glue}
 use Rattle.store.specs.declared.types.Store.{Store}
 use Rattle.store.specs.declared.types.Place.{Place}
 use Rattle.store.specs.Stores.{term-in}
