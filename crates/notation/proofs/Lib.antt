@@ -1,0 +1,2 @@
+-- Lemmas of the readable form.
+pub mod Places
