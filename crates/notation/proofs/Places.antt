@@ -13,6 +13,7 @@ past-within p b n l k = (line (eqb b 10), column (eqb b 10) (ltb b 128 || leb 19
     line : (c : Bool) → cond c (p .line + 1) (p .line) ≤ n + 2
     line true = omega arith
     line false = omega arith
+
     column : (c d : Bool) → cond c 1 (cond d (p .column + 1) (p .column)) ≤ n + 2
     column true d = omega arith
     column false true = omega arith

@@ -9,9 +9,9 @@ use Rattle.notation.specs.declared.fault.Place.{Place}
 -- one byte further: 10 ends a line, and 128 to 191 continue a character
 abbrev pub past : Place → ℕ → Place
 past p b = record {
-    line = cond (eqb b 10) (p .line + 1) (p .line);
-    column = cond (eqb b 10) 1 (cond (ltb b 128 || leb 192 b) (p .column + 1) (p .column))
-  }
+  line = cond (eqb b 10) (p .line + 1) (p .line);
+  column = cond (eqb b 10) 1 (cond (ltb b 128 || leb 192 b) (p .column + 1) (p .column));
+}
 
 -- the place after these bytes
 abbrev pub place-of : List ℕ → Place

@@ -17,8 +17,8 @@ nameByte b = (asciiLetter b || asciiDigit b) || (eqb b 95 || eqb b 39)
 -- the kind of the token that begins with the byte a, which b follows: ( ) , / = -> or a name
 abbrev pub kind : ℕ → ℕ → Kind
 kind a b =
-  cond (eqb a 40) Open (cond (eqb a 41) Close (cond (eqb a 44) Comma (cond (eqb a 47) Slash (cond (eqb a 61) Equals
-  (cond (eqb a 45 && eqb b 62) Arrow (cond (nameByte a) Name Odd))))))
+    cond (eqb a 40) Open (cond (eqb a 41) Close (cond (eqb a 44) Comma (cond (eqb a 47) Slash (cond (eqb a 61) Equals
+    (cond (eqb a 45 && eqb b 62) Arrow (cond (nameByte a) Name Odd))))))
 
 -- a token of the kind stands from start up to end in a text of n bytes: it is empty at the end of the text, and nowhere else
 pub record Extent (n start : ℕ) (k : Kind) (end : ℕ) : Type 0 where

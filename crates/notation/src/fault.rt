@@ -61,7 +61,10 @@ pub impl fmt::Display for Expected as ExpectedDisplay {
         match self {
             Expected::Words(words) => write!(f, "{words}"),
             Expected::AtMost(most, what) => write!(f, "at most {most} {what}"),
-            Expected::NextPart(sign, parts) => write!(f, "`,` and another of the {parts} parts of `{sign}`"),
+            Expected::NextPart(sign, parts) => write!(
+                f,
+                "`,` and another of the {parts} parts of `{sign}`"
+            ),
             Expected::LastPart(sign, parts) => write!(f, "`)` after the {parts} parts of `{sign}`"),
         }
     }
@@ -78,7 +81,12 @@ pub impl fmt::Display for Found as FoundDisplay {
 
 pub impl fmt::Display for Fault as FaultDisplay {
     fn fmt<W: fmt::Write>(&self, f: &mut fmt::Formatter<W>) -> fmt::Result {
-        let Fault { line, column, found, expected } = self;
+        let Fault {
+            line,
+            column,
+            found,
+            expected,
+        } = self;
         write!(f, "{line}:{column}: expected {expected}, found {found}")
     }
 }
@@ -106,9 +114,15 @@ fn step(place: Place, b: u8) -> Place
 {
     let Place { line, column } = place;
     if b == b'\n' {
-        Place { line: line + 1, column: 1 }
+        Place {
+            line: line + 1,
+            column: 1,
+        }
     } else if b < 0x80 || b >= 0xc0 {
-        Place { line, column: column + 1 }
+        Place {
+            line,
+            column: column + 1,
+        }
     } else {
         place
     }
@@ -140,7 +154,12 @@ fn found_at(heap: Global, token: Token<'_>) -> Result<Found, AllocError> {
 pub fn fault_at(heap: Global, text: &[u8], token: Token<'_>, expected: Expected) -> Error {
     let Place { line, column } = place_after(&text[0..token.start.min(text.len())]);
     match found_at(heap, token) {
-        Ok(found) => Error::Fault(Fault { line, column, found, expected }),
+        Ok(found) => Error::Fault(Fault {
+            line,
+            column,
+            found,
+            expected,
+        }),
         Err(_) => Error::Memory,
     }
 }

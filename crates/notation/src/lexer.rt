@@ -46,7 +46,11 @@ impl Token<'_> {
 }
 
 fn is_reserved(word: &[u8]) -> bool {
-    word == b"signs" || word == b"rank" || word == b"letters" || word == b"equations" || word == b"rules"
+    word == b"signs"
+        || word == b"rank"
+        || word == b"letters"
+        || word == b"equations"
+        || word == b"rules"
 }
 
 fn is_name_byte(b: u8) -> bool

@@ -2,4 +2,6 @@
 pub mod fault;
 pub mod lexer;
 mod parser;
+pub mod sections;
 pub mod signature;
+mod terms;

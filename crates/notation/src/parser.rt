@@ -33,7 +33,12 @@ fn decimal(word: &[u8]) -> Option<u32> {
 
 impl<'a> Parser<'a> {
     pub(crate) fn new(heap: Global, text: &'a [u8]) -> Parser<'a> {
-        Parser { heap, text, token: token_from(text, 0), signature: Signature::new(heap) }
+        Parser {
+            heap,
+            text,
+            token: token_from(text, 0),
+            signature: Signature::new(heap),
+        }
     }
 
     // Goes on to the next token.
@@ -42,8 +47,14 @@ impl<'a> Parser<'a> {
         self.token = token_from(self.text, end);
     }
 
+    // The error that the token stands where something else was expected.
+    pub(crate) fn fault_at(&self, token: Token<'_>, expected: Expected) -> Error {
+        fault_at(self.heap, self.text, token, expected)
+    }
+
+    // The same of the next token.
     pub(crate) fn fault(&self, expected: Expected) -> Error {
-        fault_at(self.heap, self.text, self.token, expected)
+        self.fault_at(self.token, expected)
     }
 
     // Takes a token of this kind, if it comes next.

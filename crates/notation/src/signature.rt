@@ -23,32 +23,35 @@ pub struct Signature {
 // What a name stands for.
 #[derive(Clone, Copy)]
 pub enum Symbol {
-    Letter(usize),
-    Sign(usize),
+    Letter(u32),
+    Sign(u32),
 }
 
 impl Signature {
     pub fn new(heap: Global) -> Signature {
-        Signature { signs: Vec::new(heap), letters: Vec::new(heap) }
+        Signature {
+            signs: Vec::new(heap),
+            letters: Vec::new(heap),
+        }
     }
 
-    fn sign_named(&self, name: &[u8]) -> Option<usize>
+    fn sign_named(&self, name: &[u8]) -> Option<u32>
         ensures { λ r. ⌜ BySome r (Unit {0}) (λ i. i < vec-len (now (self .entry) .signs)) ⌝ }
     {
         for (i, sign) in self.signs.iter().enumerate() {
             if sign.name.as_bytes() == name {
-                return Some(i);
+                return u32::try_from(i).ok();
             }
         }
         None
     }
 
-    fn letter_named(&self, name: &[u8]) -> Option<usize>
+    fn letter_named(&self, name: &[u8]) -> Option<u32>
         ensures { λ r. ⌜ BySome r (Unit {0}) (λ i. i < vec-len (now (self .entry) .letters)) ⌝ }
     {
         for (i, letter) in self.letters.iter().enumerate() {
             if letter.as_bytes() == name {
-                return Some(i);
+                return u32::try_from(i).ok();
             }
         }
         None

@@ -20,6 +20,7 @@ pub record Sides (ps : List ℕ) (e : Eq) : Type 0 where
   pub right : Ok ps (e .right)
   pub left-size : size (e .left) ≤ 32
   pub right-size : size (e .right) ≤ 32
+
 abbrev pub All-sides : List ℕ → List Eq → Type 0
 All-sides ps es = (i : ℕ) (e : Eq) → nth es i ≡ some e → Sides ps e
 
@@ -42,9 +43,11 @@ pub record Fine (b : Book) : Type 0 where
 -- one end (confluence): whatever steps are taken from one term of the book's signs, the two results come together
 abbrev pub One-end : Book → Type 0
 One-end b = (t u v : Term) → Fits (b .parts) t → Steps (b .rules) t u → Steps (b .rules) t v → Meet (b .rules) u v
+
 -- the rules say no more than the equations
 abbrev pub No-more : Book → Type 0
 No-more b = (i : ℕ) (r : Eq) → nth (b .rules) i ≡ some r → Equal (b .eqs) (r .left) (r .right)
+
 -- and no less: the sides of each equation come together
 abbrev pub No-less : Book → Type 0
 No-less b = (i : ℕ) (e : Eq) → nth (b .eqs) i ≡ some e → Meet (b .rules) (e .left) (e .right)

@@ -9,6 +9,7 @@ use Rattle.rewriting.specs.Rules.{Eq}
 -- the precedence: the higher a sign's rank, the greater
 abbrev pub Rank : Type 0
 Rank = ℕ → ℕ
+
 abbrev pub rank : List ℕ → Rank
 rank [] f = 0
 rank (r ∷ rs) zero = r
@@ -21,15 +22,18 @@ mutual
     by-part : {f : ℕ} {ts : Terms} {u : Term} → Some-at-least rk ts u → Greater rk (sign f ts) u
     by-sign : {f g : ℕ} {ts us : Terms} → rk g < rk f → All-less rk (sign f ts) us → Greater rk (sign f ts) (sign g us)
     by-order : {f : ℕ} {ts us : Terms} → First-greater rk ts us → All-less rk (sign f ts) us → Greater rk (sign f ts) (sign f us)
+
   -- one of the parts is the other term, or is greater
   pub data Some-at-least (rk : Rank) : Terms → Term → Type 0 where
     this-is : {t : Term} {ts : Terms} → Some-at-least rk (and1 t ts) t
     this-more : {t u : Term} {ts : Terms} → Greater rk t u → Some-at-least rk (and1 t ts) u
     later : {t u : Term} {ts : Terms} → Some-at-least rk ts u → Some-at-least rk (and1 t ts) u
+
   -- greater than each of the other's parts
   pub data All-less (rk : Rank) : Term → Terms → Type 0 where
     none-there : {t : Term} → All-less rk t none1
     this-less : {t u : Term} {us : Terms} → Greater rk t u → All-less rk t us → All-less rk t (and1 u us)
+
   -- of the first parts that differ, the first's is greater
   pub data First-greater (rk : Rank) : Terms → Terms → Type 0 where
     here : {t u : Term} {ts us : Terms} → Greater rk t u → First-greater rk (and1 t ts) (and1 u us)

@@ -11,6 +11,7 @@ abbrev mutual
   pub fill : {v t : Term} → Part v t → (ℕ → Term) → Term → Term
   fill itself s w = w
   fill (in-part {f = f} p) s w = sign f (fills p s w)
+
   pub fills : {v : Term} {ts : Terms} → Parts v ts → (ℕ → Term) → Term → Terms
   fills (in-this {ts = ts} p) s w = and1 (fill p s w) (puts s ts)
   fills (in-later {t = t} p) s w = and1 (put s t) (fills p s w)
@@ -41,6 +42,7 @@ pub record Peak (rs : List Eq) (t : Term) : Type 0 where
 -- its two results (the critical pair): by rule i at the top, and by rule j at the place
 abbrev pub first-result : {rs : List Eq} {t : Term} → Peak rs t → Term
 first-result k = put (k .s) (k .p .right)
+
 abbrev pub second-result : {rs : List Eq} {t : Term} → Peak rs t → Term
 second-result k = fill (k .stands) (k .s) (put (k .s) (renamed (k .q .right)))
 

@@ -18,6 +18,7 @@ mutual
     on : {t u v : Term} → Equal es t u → Equal es u v → Equal es t v
     by : (i : ℕ) (e : Eq) (s : ℕ → Term) → nth es i ≡ some e → Equal es (put s (e .left)) (put s (e .right))
     inside : {f : ℕ} {ts us : Terms} → Equals es ts us → Equal es (sign f ts) (sign f us)
+
   pub data Equals (es : List Eq) : Terms → Terms → Type 0 where
     none-left : Equals es none1 none1
     and-then : {t u : Term} {ts us : Terms} → Equal es t u → Equals es ts us → Equals es (and1 t ts) (and1 u us)
@@ -27,6 +28,7 @@ mutual
   pub data Step (rs : List Eq) : Term → Term → Type 0 where
     at-top : (i : ℕ) (r : Eq) (s : ℕ → Term) → nth rs i ≡ some r → Step rs (put s (r .left)) (put s (r .right))
     below : {f : ℕ} {ts us : Terms} → Steps1 rs ts us → Step rs (sign f ts) (sign f us)
+
   pub data Steps1 (rs : List Eq) : Terms → Terms → Type 0 where
     in-first : {t u : Term} {ts : Terms} → Step rs t u → Steps1 rs (and1 t ts) (and1 u ts)
     in-rest : {t : Term} {ts us : Terms} → Steps1 rs ts us → Steps1 rs (and1 t ts) (and1 t us)
@@ -53,6 +55,7 @@ mutual
   pub data Part (v : Term) : Term → Type 0 where
     itself : Part v v
     in-part : {f : ℕ} {ts : Terms} → Parts v ts → Part v (sign f ts)
+
   pub data Parts (v : Term) : Terms → Type 0 where
     in-this : {t : Term} {ts : Terms} → Part v t → Parts v (and1 t ts)
     in-later : {t : Term} {ts : Terms} → Parts v ts → Parts v (and1 t ts)

@@ -15,6 +15,7 @@ mutual
   pub data Term : Type 0 where
     letter : ℕ → Term
     sign : ℕ → Terms → Term
+
   pub data Terms : Type 0 where
     none1 : Terms
     and1 : Term → Terms → Terms
@@ -24,6 +25,7 @@ abbrev mutual
   pub put : (ℕ → Term) → Term → Term
   put s (letter x) = s x
   put s (sign f ts) = sign f (puts s ts)
+
   pub puts : (ℕ → Term) → Terms → Terms
   puts s none1 = none1
   puts s (and1 t ts) = and1 (put s t) (puts s ts)
@@ -33,6 +35,7 @@ abbrev mutual
   pub size : Term → ℕ
   size (letter x) = 1
   size (sign f ts) = 1 + sizes ts
+
   pub sizes : Terms → ℕ
   sizes none1 = 0
   sizes (and1 t ts) = size t + sizes ts
@@ -47,6 +50,7 @@ mutual
   pub data In (x : ℕ) : Term → Type 0 where
     is : In x (letter x)
     part : {f : ℕ} {ts : Terms} → Ins x ts → In x (sign f ts)
+
   pub data Ins (x : ℕ) : Terms → Type 0 where
     here : {t : Term} {ts : Terms} → In x t → Ins x (and1 t ts)
     there : {t : Term} {ts : Terms} → Ins x ts → Ins x (and1 t ts)
@@ -56,6 +60,7 @@ abbrev mutual
   pub Over : (ℕ → Type 0) → List ℕ → Term → Type 0
   Over L ps (letter x) = L x
   Over L ps (sign f ts) = (nth ps f ≡ some (count ts)) × All-over L ps ts
+
   pub All-over : (ℕ → Type 0) → List ℕ → Terms → Type 0
   All-over L ps none1 = Unit {0}
   All-over L ps (and1 t ts) = Over L ps t × All-over L ps ts
@@ -63,11 +68,13 @@ abbrev mutual
 -- the letters that a book may use, and any letters
 abbrev pub Small-letter : ℕ → Type 0
 Small-letter x = x < 16
+
 abbrev pub Any-letter : ℕ → Type 0
 Any-letter x = Unit {0}
 
 -- a term over the signature ps with letters below 16; with any letters
 abbrev pub Ok : List ℕ → Term → Type 0
 Ok ps t = Over Small-letter ps t
+
 abbrev pub Fits : List ℕ → Term → Type 0
 Fits ps t = Over Any-letter ps t

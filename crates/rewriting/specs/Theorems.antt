@@ -26,7 +26,8 @@ Down-ends = (b : Book) → Fine b → All-down (rank (b .ranks)) (b .rules) → 
 -- a number for each term that every step makes smaller (the derivation height)
 abbrev pub Falls : (Book → Term → ℕ) → Type 0
 Falls height = (b : Book) → Fine b → All-down (rank (b .ranks)) (b .rules) →
-  (t u : Term) → Fits (b .parts) t → Step (b .rules) t u → height b u < height b t
+    (t u : Term) → Fits (b .parts) t → Step (b .rules) t u → height b u < height b t
+
 abbrev pub Heights : Type 0
 Heights = (height : Book → Term → ℕ) × Falls height
 
@@ -37,10 +38,12 @@ Made-one = (a b : Term) → Least a b ⊎ ((r : ℕ → Term) → put r a ≡ pu
 -- one end, told by the two results at each place where two rules meet (the critical pair theorem)
 abbrev pub Overlaps-tell : Type 0
 Overlaps-tell = (b : Book) → Fine b → All-down (rank (b .ranks)) (b .rules) → Overlaps-meet (b .rules) → One-end b
+
 -- the weaker theorem, which asks it of all pairs of steps from such a place
 abbrev pub Peaks-tell : Type 0
 Peaks-tell = (b : Book) → Fine b → All-down (rank (b .ranks)) (b .rules) →
-  ((t u v : Term) → Peak (b .rules) t → Step (b .rules) t u → Step (b .rules) t v → Meet (b .rules) u v) → One-end b
+    ((t u v : Term) → Peak (b .rules) t → Step (b .rules) t u → Step (b .rules) t v → Meet (b .rules) u v) → One-end b
+
 -- so it can be told by finitely many pairs
 abbrev pub Told-by-pairs : Type 0
 Told-by-pairs = (b : Book) → Fine b → All-down (rank (b .ranks)) (b .rules) → One-end b ⊎ (One-end b → ⊥)
@@ -51,6 +54,7 @@ pub record Is-settled (b : Book) : Type 0 where
   pub equal : (t u : Term) → Fits (b .parts) t → Fits (b .parts) u → Equal (b .eqs) t u ↔ Meet (b .rules) t u
   pub comes : (t : Term) → Fits (b .parts) t → (n : Term) × Steps (b .rules) t n × Done (b .rules) n
   pub one : (t m n : Term) → Fits (b .parts) t →
-    Steps (b .rules) t m → Done (b .rules) m → Steps (b .rules) t n → Done (b .rules) n → m ≡ n
+      Steps (b .rules) t m → Done (b .rules) m → Steps (b .rules) t n → Done (b .rules) n → m ≡ n
+
 abbrev pub Settled : Type 0
 Settled = (b : Book) → Fine b → All-down (rank (b .ranks)) (b .rules) → One-end b → No-less b → No-more b → Is-settled b

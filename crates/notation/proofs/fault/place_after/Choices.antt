@@ -7,4 +7,4 @@ use Rattle.notation.proofs.fault.place_after.Given as given
 
 abbrev pub Inv-loop-b : given.InvT-loop-b
 Inv-loop-b l =
-  (l .place ≡ place-of (take (l .b-index) (l .before))) × (l .place .line ≤ l .b-index + 1) × (l .place .column ≤ l .b-index + 1)
+    (l .place ≡ place-of (take (l .b-index) (l .before))) × (l .place .line ≤ l .b-index + 1) × (l .place .column ≤ l .b-index + 1)

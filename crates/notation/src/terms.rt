@@ -1,0 +1,138 @@
+// Terms, read with a stack of the signs whose parts are not all read yet.
+ghost use Prim.Native.Nat.{_+_, _*_, _≤_};
+ghost use Rattle.std.specs.Of.Vec.{vec-len};
+use crate::fault::Error;
+use crate::fault::ErrorFromAlloc;
+use crate::fault::ErrorFromRefused;
+use crate::fault::Expected;
+use crate::lexer::Kind;
+use crate::parser::Parser;
+use crate::signature::Symbol;
+
+// How many letters and signs a term may have, and below which number its letters are; and how the first limit is told.
+#[derive(Clone, Copy)]
+pub(crate) struct Limits {
+    pub(crate) symbols: usize,
+    pub(crate) letters: u32,
+    pub(crate) told: u32,
+    pub(crate) of: &'static str,
+}
+
+// A sign, how many parts it has, and how many of them come after the one that is read now.
+#[derive(Clone, Copy)]
+pub(crate) struct Open {
+    sign: u32,
+    parts: u32,
+    left: u32,
+}
+
+impl Parser<'_> {
+    // How many parts the sign has.
+    fn parts_of(&self, sign: u32) -> u32 {
+        match self.signature.signs.get(sign as usize) {
+            Some(found) => found.parts,
+            None => 0,
+        }
+    }
+
+    fn sign_name(&self, sign: u32) -> Result<String, Error> {
+        match self.signature.signs.get(sign as usize) {
+            Some(found) => Ok(found.name.clone()?),
+            None => Ok(String::new(self.heap)),
+        }
+    }
+
+    // Takes a letter or a sign with its opening bracket, adds its two words to `row`, and tells how many parts follow.
+    fn symbol(&mut self, row: &mut Vec<u32>, letters: u32) -> Result<Open, Error>
+        ensures { λ _. ⌜ vec-len (now (row .exit)) ≤ vec-len (now (row .entry)) + 2 ⌝ }
+    {
+        if !self.token.is_name() {
+            return Err(self.fault(Expected::Words("a term")));
+        }
+        match self.signature.named(self.token.word) {
+            Some(Symbol::Letter(x)) if x < letters => self.letter(row, x),
+            Some(Symbol::Letter(_)) => Err(self.fault(Expected::Words(
+                "one of the first 16 letters",
+            ))),
+            Some(Symbol::Sign(f)) => self.sign(row, f),
+            None => Err(self.fault(Expected::Words("the name of a sign or a letter"))),
+        }
+    }
+
+    fn letter(&mut self, row: &mut Vec<u32>, letter: u32) -> Result<Open, Error>
+        ensures { λ _. ⌜ vec-len (now (row .exit)) ≤ vec-len (now (row .entry)) + 2 ⌝ }
+    {
+        row.push(0)?;
+        row.push(letter)?;
+        self.advance();
+        if self.token.is(Kind::Open) {
+            return Err(self.fault(Expected::Words("no bracket after a letter")));
+        }
+        Ok(Open {
+            sign: 0,
+            parts: 0,
+            left: 0,
+        })
+    }
+
+    fn sign(&mut self, row: &mut Vec<u32>, sign: u32) -> Result<Open, Error>
+        ensures { λ _. ⌜ vec-len (now (row .exit)) ≤ vec-len (now (row .entry)) + 2 ⌝ }
+    {
+        row.push(1)?;
+        row.push(sign)?;
+        self.advance();
+        let parts = self.parts_of(sign);
+        if parts == 0 {
+            if self.take(Kind::Open) {
+                self.expect(Kind::Close, Expected::LastPart(self.sign_name(sign)?, 0))?;
+            }
+            return Ok(Open {
+                sign,
+                parts,
+                left: 0,
+            });
+        }
+        self.expect(Kind::Open, Expected::Words("`(` and the sign's parts"))?;
+        Ok(Open {
+            sign,
+            parts,
+            left: parts,
+        })
+    }
+
+    // After a whole term: takes the closing brackets of the signs that end with it; whether another part comes then.
+    fn close(&mut self, open: &mut Vec<Open>) -> Result<bool, Error> {
+        while let Some(top) = open.pop() {
+            let name = self.sign_name(top.sign)?;
+            if top.left > 0 {
+                self.expect(Kind::Comma, Expected::NextPart(name, top.parts))?;
+                open.push(Open {
+                    left: top.left - 1,
+                    ..top
+                })?;
+                return Ok(true);
+            }
+            self.expect(Kind::Close, Expected::LastPart(name, top.parts))?;
+        }
+        Ok(false)
+    }
+
+    // Takes a term, and adds its row to `row`.
+    pub(crate) fn term(&mut self, row: &mut Vec<u32>, limits: Limits) -> Result<(), Error>
+        ensures { λ _. ⌜ vec-len (now (row .exit)) ≤ vec-len (now (row .entry)) + 2 * limits .symbols ⌝ }
+    {
+        let mut open = Vec::new(self.heap);
+        for _i in 0..limits.symbols {
+            let next = self.symbol(row, limits.letters)?;
+            if next.left > 0 {
+                open.push(Open {
+                    left: next.left - 1,
+                    ..next
+                })?;
+            } else if !self.close(&mut open)? {
+                return Ok(());
+            }
+        }
+        Err(self.fault(Expected::AtMost(limits.told, limits.of)))
+    }
+}
