@@ -1,0 +1,5 @@
+-- Proofs on rows.
+pub mod Glueing
+pub mod Reading
+pub mod Elements
+pub mod Scanning

@@ -1,0 +1,3 @@
+// Reading rows of words as books, terms and ways.
+pub mod layout;
+pub mod words;
