@@ -2,8 +2,8 @@
 use Prim.Native.Nat.{_<_}
 use Rattle.std.specs.Of.Vec.{vec-len}
 use Rattle.notation.specs.declared.signature.Signature.{Signature}
-use Rattle.notation.specs.declared.signature.Symbol.{Symbol}
-use Rattle.notation.specs.declared.signature.Symbol.the-variants.{Letter, Sign}
+use Rattle.books.specs.declared.words.Symbol.{Symbol}
+use Rattle.books.specs.declared.words.Symbol.the-variants.{Letter, Sign}
 
 -- the number of a sign or letter that the signature has
 abbrev pub Declared : Signature → Symbol → Type 0

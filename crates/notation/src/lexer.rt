@@ -43,6 +43,14 @@ impl Token<'_> {
     pub fn is_name(self) -> bool {
         self.kind == Kind::Name && !is_reserved(self.word)
     }
+
+    // The number that it writes in decimal, if that fits 32 bits.
+    pub fn number(self) -> Option<u32> {
+        match std::str::from_utf8(self.word) {
+            Ok(digits) => digits.parse::<u32>().ok(),
+            Err(_) => None,
+        }
+    }
 }
 
 fn is_reserved(word: &[u8]) -> bool {

@@ -2,6 +2,7 @@
 pub mod fault;
 pub mod lexer;
 mod parser;
+mod printer;
 pub mod sections;
 pub mod signature;
 mod terms;

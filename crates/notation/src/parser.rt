@@ -23,14 +23,6 @@ pub(crate) struct Parser<'a> {
     pub(crate) signature: Signature,
 }
 
-// The number that the word writes, if it fits 32 bits.
-fn decimal(word: &[u8]) -> Option<u32> {
-    match std::str::from_utf8(word) {
-        Ok(digits) => digits.parse::<u32>().ok(),
-        Err(_) => None,
-    }
-}
-
 impl<'a> Parser<'a> {
     pub(crate) fn new(heap: Global, text: &'a [u8]) -> Parser<'a> {
         Parser {
@@ -78,7 +70,7 @@ impl<'a> Parser<'a> {
     pub(crate) fn number(&mut self, most: u32, expected: Expected) -> Result<u32, Error>
         ensures { λ r. ⌜ made r (λ n. n ≤ most) ⌝ }
     {
-        match decimal(self.token.word) {
+        match self.token.number() {
             Some(n) if n <= most => {
                 self.advance();
                 Ok(n)

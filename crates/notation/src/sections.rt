@@ -21,8 +21,8 @@ const MOST_EQUATIONS: u32 = 64;
 
 const MOST_RULES: u32 = 64;
 
-// How many words the row of the ways may have.
-pub const MOST_WAY_WORDS: usize = 16_384;
+// How many words the longest row of a book has: 67, and 64 for each side. The ways' row may be as long.
+pub const MOST_WORDS: usize = 16_451;
 
 // A side of an equation or a rule.
 const SIDE: Limits = Limits {
@@ -140,15 +140,15 @@ impl Parser<'_> {
 
     // Takes a term of a way, and adds it to the ways' row.
     fn way_term(&mut self, ways: &mut Vec<u32>) -> Result<(), Error>
-        ensures { λ _. ⌜ (vec-len (now (ways .entry)) ≤ 16384 → vec-len (now (ways .exit)) ≤ 16384) ⌝ }
+        ensures { λ _. ⌜ (vec-len (now (ways .entry)) ≤ 16451 → vec-len (now (ways .exit)) ≤ 16451) ⌝ }
     {
-        let symbols = MOST_WAY_WORDS.saturating_sub(ways.len()) / 2;
+        let symbols = MOST_WORDS.saturating_sub(ways.len()) / 2;
         self.term(
             ways,
             Limits {
                 symbols,
                 letters: u32::MAX,
-                told: 16_384,
+                told: 16_451,
                 of: "words of ways",
             },
         )
@@ -156,7 +156,7 @@ impl Parser<'_> {
 
     // Takes the terms of a way, and tells how many.
     fn way_terms(&mut self, ways: &mut Vec<u32>) -> Result<u32, Error>
-        ensures { λ _. ⌜ (vec-len (now (ways .entry)) ≤ 16384 → vec-len (now (ways .exit)) ≤ 16384) ⌝ }
+        ensures { λ _. ⌜ (vec-len (now (ways .entry)) ≤ 16451 → vec-len (now (ways .exit)) ≤ 16451) ⌝ }
     {
         for count in 0..u32::MAX {
             if !self.take(Kind::Equals) {
@@ -169,11 +169,11 @@ impl Parser<'_> {
 
     // Takes the way of a rule: adds to the ways' row how many terms it has, and these.
     fn way(&mut self, ways: &mut Vec<u32>) -> Result<(), Error>
-        ensures { λ _. ⌜ (vec-len (now (ways .entry)) ≤ 16384 → vec-len (now (ways .exit)) ≤ 16384) ⌝ }
+        ensures { λ _. ⌜ (vec-len (now (ways .entry)) ≤ 16451 → vec-len (now (ways .exit)) ≤ 16451) ⌝ }
     {
         let start = ways.len();
-        if start >= MOST_WAY_WORDS {
-            return Err(self.fault(Expected::AtMost(16_384, "words of ways")));
+        if start >= MOST_WORDS {
+            return Err(self.fault(Expected::AtMost(16_451, "words of ways")));
         }
         ways.push(0)?;
         let count = self.way_terms(ways)?;
@@ -186,7 +186,7 @@ impl Parser<'_> {
     // Takes the rules, each with its way, and tells how many.
     fn rules(&mut self, row: &mut Vec<u32>, ways: &mut Vec<u32>) -> Result<u32, Error>
         ensures len { λ _. ⌜ vec-len (now (row .exit)) ≤ vec-len (now (row .entry)) + 8192 ⌝ }
-        ensures ways { λ _. ⌜ (vec-len (now (ways .entry)) ≤ 16384 → vec-len (now (ways .exit)) ≤ 16384) ⌝ }
+        ensures ways { λ _. ⌜ (vec-len (now (ways .entry)) ≤ 16451 → vec-len (now (ways .exit)) ≤ 16451) ⌝ }
         ensures few { λ r. ⌜ made r (λ n. n ≤ 64) ⌝ }
     {
         for count in 0..MOST_RULES {
@@ -213,7 +213,7 @@ impl Parser<'_> {
 
     // Takes the equations and the rules, up to the end of the text.
     pub(crate) fn book_sides(&mut self) -> Result<Sides, Error>
-        ensures { λ r. ⌜ made r (λ s. (vec-len (s .row) ≤ 16384) × (vec-len (s .ways) ≤ 16384)) ⌝ }
+        ensures { λ r. ⌜ made r (λ s. (vec-len (s .row) ≤ 16384) × (vec-len (s .ways) ≤ 16451)) ⌝ }
     {
         let mut row = Vec::new(self.heap);
         let mut ways = Vec::new(self.heap);

@@ -3,6 +3,7 @@ ghost use Prim.Native.Nat.{_<_};
 ghost use Rattle.std.specs.Of.Vec.{vec-len};
 ghost use Rattle.std.specs.Options.{Cases as BySome};
 ghost use Rattle.notation.specs.Names.{Declared};
+use books::words::Symbol;
 use std::alloc::Global;
 
 // A sign with how many parts it has, and its rank.
@@ -18,13 +19,6 @@ pub struct Sign {
 pub struct Signature {
     pub signs: Vec<Sign>,
     pub letters: Vec<String>,
-}
-
-// What a name stands for.
-#[derive(Clone, Copy)]
-pub enum Symbol {
-    Letter(u32),
-    Sign(u32),
 }
 
 impl Signature {

@@ -7,7 +7,7 @@ use crate::fault::ErrorFromRefused;
 use crate::fault::Expected;
 use crate::lexer::Kind;
 use crate::parser::Parser;
-use crate::signature::Symbol;
+use books::words::Symbol;
 
 // How many letters and signs a term may have, and below which number its letters are; and how the first limit is told.
 #[derive(Clone, Copy)]
@@ -18,11 +18,10 @@ pub(crate) struct Limits {
     pub(crate) of: &'static str,
 }
 
-// A sign, how many parts it has, and how many of them come after the one that is read now.
+// A sign, and how many of its parts are not read yet.
 #[derive(Clone, Copy)]
 pub(crate) struct Open {
     sign: u32,
-    parts: u32,
     left: u32,
 }
 

@@ -5,4 +5,4 @@ use Rattle.notation.proofs.parser.Parser.rules.Given as given
 
 abbrev pub Inv-loop-count : given.InvT-loop-count
 Inv-loop-count l =
-    (vec-len (l .row) ≤ vec-len (l .entry .row) + 128 * l .count) × (vec-len (l .entry .ways) ≤ 16384 → vec-len (l .ways) ≤ 16384)
+    (vec-len (l .row) ≤ vec-len (l .entry .row) + 128 * l .count) × (vec-len (l .entry .ways) ≤ 16451 → vec-len (l .ways) ≤ 16451)
