@@ -9,6 +9,10 @@ use Rattle.rewriting.specs.Terms.{Term, letter, sign, Terms, none1, and1, count
 use Rattle.books.specs.Rows.{row, rows}
 use Rattle.books.specs.Reading.{glue, first, others}
 
+pub glue-none : (ts : Terms) → glue ts none1 ≡ ts
+glue-none none1 = refl
+glue-none (and1 t ts) = ap (and1 t) (glue-none ts)
+
 pub first-glue : (ts us : Terms) → first (count ts) (glue ts us) ≡ ts
 first-glue none1 us = refl
 first-glue (and1 t ts) us = rw (one-add (count ts)) (ap (and1 t) (first-glue ts us))

@@ -3,3 +3,8 @@ pub mod Glueing
 pub mod Reading
 pub mod Elements
 pub mod Scanning
+pub mod Heads
+pub mod Sided
+pub mod Unique
+pub mod Siding
+pub mod Building

@@ -14,7 +14,7 @@ use Rattle.books.specs.Reading.{Allowed, allowed, opens, glue, first, others}
 use Rattle.books.specs.Reading.{Found, symbol, topped, opened, read, left-of, terms-of}
 use Rattle.books.specs.declared.words.Letters.{Letters}
 use Rattle.books.specs.declared.words.Letters.the-variants.{Small, Any}
-use Rattle.books.proofs.Glueing.{first-glue, others-glue, glue-split, count-first, count-others, rows-glue}
+use Rattle.books.proofs.Glueing.{glue-none, first-glue, others-glue, glue-split, count-first, count-others, rows-glue}
 use Rattle.books.proofs.Glueing.{rows-length, count-sizes, over-first, over-others}
 
 pub no-some : {A : Type 0} {a : A} → none ≡ some a → ⊥
@@ -62,9 +62,6 @@ module _ (l : Letters) (ps : List ℕ) where
         ∙ (ap (λ (v : List ℕ). read l ps (suc (count ts + m)) v) (append-assoc (row t) (rows ts) ws)
         ∙ read-row t (count ts + m) (rows ts ++ ws) rest (glue ts us) (o .0) (read-rows ts m ws rest us (o .1) e))
 
-  glue-none : (ts : Terms) → glue ts none1 ≡ ts
-  glue-none none1 = refl
-  glue-none (and1 t ts) = ap (and1 t) (glue-none ts)
 
   -- just these terms
   pub read-these : (ts : Terms) (rest : List ℕ) → All-over (Allowed l) ps ts → read l ps (count ts) (rows ts ++ rest) ≡ some (ts, rest)
