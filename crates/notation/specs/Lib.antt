@@ -2,3 +2,4 @@
 pub mod Tokens
 pub mod Places
 pub mod Names
+pub mod Rows

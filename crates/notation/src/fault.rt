@@ -10,17 +10,23 @@ use std::alloc::Global;
 use std::alloc::Refused;
 use std::fmt;
 
+// A mark around or between the parts of a sign.
+#[derive(Clone, Copy, Debug)]
+pub enum Mark {
+    Open,
+    Comma,
+    Close,
+}
+
 // What could have stood in the place of what was found.
 #[derive(Debug, Drop)]
 pub enum Expected {
-    // a section word, a mark, or something that the text says
+    // what the text says
     Words(&'static str),
     // at most so many of what the text says
     AtMost(u32, &'static str),
-    // a comma and one more part of a sign that has so many
-    NextPart(String, u32),
-    // the closing bracket after a sign's parts
-    LastPart(String, u32),
+    // a mark of the parts of a sign, which has so many, by its name
+    Parts(Mark, u32, String),
 }
 
 #[derive(Debug, Drop)]
@@ -61,11 +67,9 @@ pub impl fmt::Display for Expected as ExpectedDisplay {
         match self {
             Expected::Words(words) => write!(f, "{words}"),
             Expected::AtMost(most, what) => write!(f, "at most {most} {what}"),
-            Expected::NextPart(sign, parts) => write!(
-                f,
-                "`,` and another of the {parts} parts of `{sign}`"
-            ),
-            Expected::LastPart(sign, parts) => write!(f, "`)` after the {parts} parts of `{sign}`"),
+            Expected::Parts(Mark::Open, n, sign) => write!(f, "`(` and the parts of `{sign}`, which has {n}"),
+            Expected::Parts(Mark::Comma, n, sign) => write!(f, "`,` and the next part of `{sign}`, which has {n}"),
+            Expected::Parts(Mark::Close, n, sign) => write!(f, "`)` after the parts of `{sign}`, which has {n}"),
         }
     }
 }

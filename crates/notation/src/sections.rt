@@ -32,9 +32,10 @@ const SIDE: Limits = Limits {
     of: "letters and signs a side",
 };
 
-// What the equations and rules come to: their numbers, the row of their sides, and that of the ways.
+// What a book's sections come to: how many signs, equations and rules there are, the row of the sides, and that of the ways.
 #[derive(Drop)]
 pub(crate) struct Sides {
+    pub(crate) signs: u32,
     pub(crate) equations: u32,
     pub(crate) rules: u32,
     pub(crate) row: Vec<u32>,
@@ -76,7 +77,8 @@ impl Parser<'_> {
         Ok(ranked)
     }
 
-    pub(crate) fn signs(&mut self) -> Result<(), Error> {
+    // Takes the signs, and tells how many.
+    fn signs(&mut self) -> Result<u32, Error> {
         if !self.token.is_word(b"signs") {
             return Err(self.fault(Expected::Words("`signs`")));
         }
@@ -84,17 +86,17 @@ impl Parser<'_> {
         let mut ranked = self.sign_entry(0, false)?;
         for number in 1..MOST_SIGNS {
             if !self.token.is_name() {
-                return Ok(());
+                return Ok(number);
             }
             ranked = self.sign_entry(number, ranked)?;
         }
         if self.token.is_name() {
             return Err(self.fault(Expected::AtMost(MOST_SIGNS, "signs")));
         }
-        Ok(())
+        Ok(MOST_SIGNS)
     }
 
-    pub(crate) fn letters(&mut self) -> Result<(), Error> {
+    fn letters(&mut self) -> Result<(), Error> {
         if !self.token.is_word(b"letters") {
             return Ok(());
         }
@@ -211,12 +213,14 @@ impl Parser<'_> {
         found
     }
 
-    // Takes the equations and the rules, up to the end of the text.
-    pub(crate) fn book_sides(&mut self) -> Result<Sides, Error>
+    // Takes all sections, up to the end of the text.
+    pub(crate) fn sections(&mut self) -> Result<Sides, Error>
         ensures { λ r. ⌜ made r (λ s. (vec-len (s .row) ≤ 16384) × (vec-len (s .ways) ≤ 16451)) ⌝ }
     {
-        let mut row = Vec::new(self.heap);
-        let mut ways = Vec::new(self.heap);
+        let signs = self.signs()?;
+        self.letters()?;
+        let mut row = Vec::with_capacity(self.heap, 16_384)?;
+        let mut ways = Vec::with_capacity(self.heap, MOST_WORDS)?;
         let mut expected = "a name, `equations`, `rules` or the end of the text";
         let mut equations = 0;
         if self.opens(b"equations") {
@@ -232,6 +236,7 @@ impl Parser<'_> {
             return Err(self.fault(Expected::Words(expected)));
         }
         Ok(Sides {
+            signs,
             equations,
             rules,
             row,

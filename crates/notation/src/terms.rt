@@ -2,9 +2,9 @@
 ghost use Prim.Native.Nat.{_+_, _*_, _≤_};
 ghost use Rattle.std.specs.Of.Vec.{vec-len};
 use crate::fault::Error;
-use crate::fault::ErrorFromAlloc;
 use crate::fault::ErrorFromRefused;
 use crate::fault::Expected;
+use crate::fault::Mark;
 use crate::lexer::Kind;
 use crate::parser::Parser;
 use books::words::Symbol;
@@ -34,14 +34,18 @@ impl Parser<'_> {
         }
     }
 
-    fn sign_name(&self, sign: u32) -> Result<String, Error> {
-        match self.signature.signs.get(sign as usize) {
-            Some(found) => Ok(found.name.clone()?),
-            None => Ok(String::new(self.heap)),
+    // The error that a mark of the sign's parts does not come.
+    fn parts_fault(&self, sign: u32, mark: Mark) -> Error {
+        let Some(found) = self.signature.signs.get(sign as usize) else {
+            return self.fault(Expected::Words("a sign"));
+        };
+        match found.name.clone() {
+            Ok(name) => self.fault(Expected::Parts(mark, found.parts, name)),
+            Err(_) => Error::Memory,
         }
     }
 
-    // Takes a letter or a sign with its opening bracket, adds its two words to `row`, and tells how many parts follow.
+    // Takes a letter or a sign with its opening bracket, and adds its two words to `row`.
     fn symbol(&mut self, row: &mut Vec<u32>, letters: u32) -> Result<Open, Error>
         ensures { λ _. ⌜ vec-len (now (row .exit)) ≤ vec-len (now (row .entry)) + 2 ⌝ }
     {
@@ -50,9 +54,7 @@ impl Parser<'_> {
         }
         match self.signature.named(self.token.word) {
             Some(Symbol::Letter(x)) if x < letters => self.letter(row, x),
-            Some(Symbol::Letter(_)) => Err(self.fault(Expected::Words(
-                "one of the first 16 letters",
-            ))),
+            Some(Symbol::Letter(_)) => Err(self.fault(Expected::Words("one of the first 16 letters"))),
             Some(Symbol::Sign(f)) => self.sign(row, f),
             None => Err(self.fault(Expected::Words("the name of a sign or a letter"))),
         }
@@ -67,11 +69,7 @@ impl Parser<'_> {
         if self.token.is(Kind::Open) {
             return Err(self.fault(Expected::Words("no bracket after a letter")));
         }
-        Ok(Open {
-            sign: 0,
-            parts: 0,
-            left: 0,
-        })
+        Ok(Open { sign: 0, left: 0 })
     }
 
     fn sign(&mut self, row: &mut Vec<u32>, sign: u32) -> Result<Open, Error>
@@ -80,38 +78,30 @@ impl Parser<'_> {
         row.push(1)?;
         row.push(sign)?;
         self.advance();
-        let parts = self.parts_of(sign);
-        if parts == 0 {
-            if self.take(Kind::Open) {
-                self.expect(Kind::Close, Expected::LastPart(self.sign_name(sign)?, 0))?;
-            }
-            return Ok(Open {
-                sign,
-                parts,
-                left: 0,
-            });
+        let left = self.parts_of(sign);
+        let opened = self.take(Kind::Open);
+        if left > 0 && !opened {
+            return Err(self.parts_fault(sign, Mark::Open));
         }
-        self.expect(Kind::Open, Expected::Words("`(` and the sign's parts"))?;
-        Ok(Open {
-            sign,
-            parts,
-            left: parts,
-        })
+        if left == 0 && opened && !self.take(Kind::Close) {
+            return Err(self.parts_fault(sign, Mark::Close));
+        }
+        Ok(Open { sign, left })
     }
 
     // After a whole term: takes the closing brackets of the signs that end with it; whether another part comes then.
     fn close(&mut self, open: &mut Vec<Open>) -> Result<bool, Error> {
-        while let Some(top) = open.pop() {
-            let name = self.sign_name(top.sign)?;
-            if top.left > 0 {
-                self.expect(Kind::Comma, Expected::NextPart(name, top.parts))?;
-                open.push(Open {
-                    left: top.left - 1,
-                    ..top
-                })?;
+        while let Some(Open { sign, left }) = open.pop() {
+            if left > 0 {
+                if !self.take(Kind::Comma) {
+                    return Err(self.parts_fault(sign, Mark::Comma));
+                }
+                open.push(Open { sign, left: left - 1 })?;
                 return Ok(true);
             }
-            self.expect(Kind::Close, Expected::LastPart(name, top.parts))?;
+            if !self.take(Kind::Close) {
+                return Err(self.parts_fault(sign, Mark::Close));
+            }
         }
         Ok(false)
     }
@@ -122,12 +112,9 @@ impl Parser<'_> {
     {
         let mut open = Vec::new(self.heap);
         for _i in 0..limits.symbols {
-            let next = self.symbol(row, limits.letters)?;
-            if next.left > 0 {
-                open.push(Open {
-                    left: next.left - 1,
-                    ..next
-                })?;
+            let Open { sign, left } = self.symbol(row, limits.letters)?;
+            if left > 0 {
+                open.push(Open { sign, left: left - 1 })?;
             } else if !self.close(&mut open)? {
                 return Ok(());
             }

@@ -2,5 +2,5 @@
 use Rattle.std.specs.Of.Vec.{vec-len}
 use Rattle.notation.proofs.parser.Parser.close.Given as given
 
-abbrev pub μ-loop-top : given.MeasureT-loop-top
-μ-loop-top l = vec-len (l .open)
+abbrev pub μ-loop-sign : given.MeasureT-loop-sign
+μ-loop-sign l = vec-len (l .open)
