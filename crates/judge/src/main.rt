@@ -3,6 +3,7 @@ mod options;
 
 use books::read_book;
 use notation::fault::ErrorDisplay;
+use notation::fault::ErrorFromAlloc;
 use notation::parse;
 use notation::read_rows;
 use options::Asked;
@@ -65,14 +66,23 @@ fn read_input(rt: &LibcRuntime, name: &str) -> io::Result<Vec<u8>> {
 // The first line of the answer.
 fn answer(rt: &LibcRuntime, text: &str, rows: bool) -> Result<String, notation::fault::Error> {
     let heap = rt.alloc();
-    let words = if rows { read_rows(heap, text)?.book } else { parse(heap, text)?.words };
+    let words = if rows {
+        read_rows(heap, text)?.book
+    } else {
+        parse(heap, text)?.words
+    };
     match read_book(words.as_slice()) {
         None => Ok(String::from_str(heap, "no book")?),
         Some(layout) => {
             let signs = layout.signs();
             let equations = layout.equations();
             let rules = layout.rules();
-            Ok(format!(heap, "a book of {signs} signs, {equations} equations, {rules} rules")?)
+            Ok(
+                format!(
+                    heap,
+                    "a book of {signs} signs, {equations} equations, {rules} rules"
+                )?,
+            )
         }
     }
 }
@@ -87,7 +97,10 @@ fn judge(rt: &LibcRuntime, options: Options<'_>) -> Result<(), Stopped> {
         }
     };
     if bytes.len() > MOST_TEXT {
-        eprintln!(rt, "judge: {name}: the text has more than {MOST_TEXT} bytes")?;
+        eprintln!(
+            rt,
+            "judge: {name}: the text has more than {MOST_TEXT} bytes"
+        )?;
         return Err(Stopped);
     }
     let Ok(text) = std::str::from_utf8(bytes.as_slice()) else {

@@ -30,7 +30,11 @@ impl<'a> Options<'a> {
         if self.file.is_some() {
             return Err(Refusal::SecondFile(name));
         }
-        Ok(Options { rows: self.rows, work: self.work, file: Some(name) })
+        Ok(Options {
+            rows: self.rows,
+            work: self.work,
+            file: Some(name),
+        })
     }
 }
 
@@ -50,13 +54,22 @@ pub enum Refusal<'a> {
     BadNumber(&'a str),
 }
 
-impl fmt::Display for Refusal<'_> as RefusalDisplay {
+pub impl fmt::Display for Refusal<'_> as RefusalDisplay {
     fn fmt<W: fmt::Write>(&self, f: &mut fmt::Formatter<W>) -> fmt::Result {
         match *self {
-            Refusal::UnknownOption(option) => write!(f, "there is no option `{option}`; see --help"),
-            Refusal::SecondFile(file) => write!(f, "one file is judged at a time, and `{file}` is a second"),
+            Refusal::UnknownOption(option) => write!(
+                f,
+                "there is no option `{option}`; see --help"
+            ),
+            Refusal::SecondFile(file) => write!(
+                f,
+                "one file is judged at a time, and `{file}` is a second"
+            ),
             Refusal::NoNumber => write!(f, "--work wants a number after it"),
-            Refusal::BadNumber(n) => write!(f, "--work wants a number up to {MOST_WORK}, and `{n}` is none"),
+            Refusal::BadNumber(n) => write!(
+                f,
+                "--work wants a number up to {MOST_WORK}, and `{n}` is none"
+            ),
         }
     }
 }
@@ -78,7 +91,11 @@ fn work_words(argument: Option<&String>) -> Result<usize, Refusal<'_>>
 pub fn read_arguments(arguments: &[String]) -> Result<Asked<'_>, Refusal<'_>>
     ensures { λ r. ⌜ Cases r Within (λ _. Unit {0}) ⌝ }
 {
-    let mut options = Options { rows: false, work: MOST_WORK, file: None };
+    let mut options = Options {
+        rows: false,
+        work: MOST_WORK,
+        file: None,
+    };
     let mut at = 0;
     while at < arguments.len() {
         match arguments[at].as_str() {

@@ -54,7 +54,12 @@ pub fn parse(heap: Global, text: &str) -> Result<Book, Error>
         Some(layout) => {
             let Parser { signature, .. } = parser;
             let Sides { ways, .. } = sides;
-            Ok(Book { signature, words, ways, layout })
+            Ok(Book {
+                signature,
+                words,
+                ways,
+                layout,
+            })
         }
         None => Err(parser.fault(Expected::Words("a book"))),
     }

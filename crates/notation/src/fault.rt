@@ -67,9 +67,18 @@ pub impl fmt::Display for Expected as ExpectedDisplay {
         match self {
             Expected::Words(words) => write!(f, "{words}"),
             Expected::AtMost(most, what) => write!(f, "at most {most} {what}"),
-            Expected::Parts(Mark::Open, n, sign) => write!(f, "`(` and the parts of `{sign}`, which has {n}"),
-            Expected::Parts(Mark::Comma, n, sign) => write!(f, "`,` and the next part of `{sign}`, which has {n}"),
-            Expected::Parts(Mark::Close, n, sign) => write!(f, "`)` after the parts of `{sign}`, which has {n}"),
+            Expected::Parts(Mark::Open, n, sign) => write!(
+                f,
+                "`(` and the parts of `{sign}`, which has {n}"
+            ),
+            Expected::Parts(Mark::Comma, n, sign) => write!(
+                f,
+                "`,` and the next part of `{sign}`, which has {n}"
+            ),
+            Expected::Parts(Mark::Close, n, sign) => write!(
+                f,
+                "`)` after the parts of `{sign}`, which has {n}"
+            ),
         }
     }
 }

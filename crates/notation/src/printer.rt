@@ -17,12 +17,20 @@ pub(crate) struct Printer<'a> {
 
 impl<'a> Printer<'a> {
     pub(crate) fn new(heap: Global, signature: &'a Signature) -> Printer<'a> {
-        Printer { heap, signature, out: String::new(heap) }
+        Printer {
+            heap,
+            signature,
+            out: String::new(heap),
+        }
     }
 
     // The text so far.
     pub(crate) fn text(self) -> String {
-        let Printer { heap: _, signature: _, out } = self;
+        let Printer {
+            heap: _,
+            signature: _,
+            out,
+        } = self;
         out
     }
 
@@ -95,7 +103,12 @@ impl<'a> Printer<'a> {
     }
 
     // Adds the two sides that stand at a place of a row, with a mark between them, and tells the place after them.
-    pub(crate) fn add_sides(&mut self, words: &[u32], at: usize, mark: &str) -> Result<usize, AllocError>
+    pub(crate) fn add_sides(
+        &mut self,
+        words: &[u32],
+        at: usize,
+        mark: &str,
+    ) -> Result<usize, AllocError>
         ensures { λ r. ⌜ made r (λ end. at ≤ end) ⌝ }
     {
         let middle = self.add_term(words, at)?;

@@ -41,7 +41,12 @@ fn row(heap: Global, text: &[u8], from: usize) -> Result<Vec<u32>, Error>
             return Ok(words);
         }
         let Some(n) = token.number() else {
-            return Err(fault_at(heap, text, token, Expected::Words("a number of at most 32 bits")));
+            return Err(fault_at(
+                heap,
+                text,
+                token,
+                Expected::Words("a number of at most 32 bits"),
+            ));
         };
         words.push(n)?;
         token = token_from(text, token.start.saturating_add(token.word.len()));
@@ -62,7 +67,12 @@ pub fn read_rows(heap: Global, text: &str) -> Result<Rows, Error>
     let ways = row(heap, bytes, second)?;
     let after = token_from(bytes, line_end(bytes, second));
     if !after.is(Kind::End) {
-        return Err(fault_at(heap, bytes, after, Expected::Words("the end of the text after two rows")));
+        return Err(fault_at(
+            heap,
+            bytes,
+            after,
+            Expected::Words("the end of the text after two rows"),
+        ));
     }
     Ok(Rows { book, ways })
 }

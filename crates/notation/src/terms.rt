@@ -54,7 +54,9 @@ impl Parser<'_> {
         }
         match self.signature.named(self.token.word) {
             Some(Symbol::Letter(x)) if x < letters => self.letter(row, x),
-            Some(Symbol::Letter(_)) => Err(self.fault(Expected::Words("one of the first 16 letters"))),
+            Some(Symbol::Letter(_)) => Err(self.fault(Expected::Words(
+                "one of the first 16 letters",
+            ))),
             Some(Symbol::Sign(f)) => self.sign(row, f),
             None => Err(self.fault(Expected::Words("the name of a sign or a letter"))),
         }
@@ -96,7 +98,10 @@ impl Parser<'_> {
                 if !self.take(Kind::Comma) {
                     return Err(self.parts_fault(sign, Mark::Comma));
                 }
-                open.push(Open { sign, left: left - 1 })?;
+                open.push(Open {
+                    sign,
+                    left: left - 1,
+                })?;
                 return Ok(true);
             }
             if !self.take(Kind::Close) {
@@ -114,7 +119,10 @@ impl Parser<'_> {
         for _i in 0..limits.symbols {
             let Open { sign, left } = self.symbol(row, limits.letters)?;
             if left > 0 {
-                open.push(Open { sign, left: left - 1 })?;
+                open.push(Open {
+                    sign,
+                    left: left - 1,
+                })?;
             } else if !self.close(&mut open)? {
                 return Ok(());
             }
