@@ -20,9 +20,11 @@ pub struct Rows {
     pub ways: Vec<u32>,
 }
 
-// The place of the end of the line that goes on at `from`.
-fn line_end(text: &[u8], from: usize) -> usize {
-    let mut end = from;
+// The place of the end of the line that goes on at `from`, or of the end of the text.
+fn line_end(text: &[u8], from: usize) -> usize
+    ensures { λ r. ⌜ r ≤ length (now (text .entry)) ⌝ }
+{
+    let mut end = from.min(text.len());
     while end < text.len() && text[end] != b'\n' {
         end += 1;
     }
