@@ -8,3 +8,4 @@ pub mod Sided
 pub mod Unique
 pub mod Siding
 pub mod Building
+pub mod Waying

@@ -62,7 +62,6 @@ module _ (l : Letters) (ps : List ℕ) where
         ∙ (ap (λ (v : List ℕ). read l ps (suc (count ts + m)) v) (append-assoc (row t) (rows ts) ws)
         ∙ read-row t (count ts + m) (rows ts ++ ws) rest (glue ts us) (o .0) (read-rows ts m ws rest us (o .1) e))
 
-
   -- just these terms
   pub read-these : (ts : Terms) (rest : List ℕ) → All-over (Allowed l) ps ts → read l ps (count ts) (rows ts ++ rest) ≡ some (ts, rest)
   read-these ts rest o =

@@ -62,7 +62,8 @@ module _ (l : Letters) (ps : List ℕ) where
         ∙ (left-topped (tag y) (number y) n (read l ps (n + m) (drop (i + 2) ws))
         ∙ ap (λ (k : ℕ). left-of (read l ps k (drop (i + 2) ws))) c))
 
-    pub stuck : (m i : ℕ) (y : Symbol) → 0 < m → Symbol-at ws i (Some y) → Asks l ps y None → left-of (read l ps m (drop i ws)) ≡ none
+    pub stuck : (m i : ℕ) (y : Symbol) → 0 < m → Symbol-at ws i (Some y) → Asks l ps y None →
+        left-of (read l ps m (drop i ws)) ≡ none
     stuck zero i y p h e = absurd (omega arith)
     stuck (suc m) i y p h e =
         ap (λ (v : List ℕ). left-of (read l ps (suc m) v)) (symbol-first i y h)
@@ -72,7 +73,8 @@ module _ (l : Letters) (ps : List ℕ) where
     no-symbol zero i p h e = absurd (omega arith)
     no-symbol (suc m) i p h e =
         ap (λ (v : List ℕ). left-of (read l ps (suc m) v)) (drop-two ws i h)
-        ∙ ap left-of (read-stuck l ps m (getD ws i 0) (getD ws (i + 1) 0) (drop (i + 2) ws) (opens-none (getD ws i 0) (getD ws (i + 1) 0) e))
+        ∙ ap left-of (read-stuck l ps m (getD ws i 0) (getD ws (i + 1) 0) (drop (i + 2) ws)
+        (opens-none (getD ws i 0) (getD ws (i + 1) 0) e))
 
     -- the end
     at-end : (m a z : ℕ) → a ≤ z → z ≤ length ws → (o : Found) → Right l ps m (drop a ws) o → left-of o ≡ some (drop z ws) →
@@ -86,7 +88,14 @@ module _ (l : Letters) (ps : List ℕ) where
           counted = r .0;
           over = r .1;
           written = w;
-          long = omega (arith, ap length w, length-append (rows (p .0)) (drop z ws), rows-length (p .0), length-drop a ws, length-drop z ws);
+          long = omega (
+            arith,
+            ap length w,
+            length-append (rows (p .0)) (drop z ws),
+            rows-length (p .0),
+            length-drop a ws,
+            length-drop z ws,
+          );
           within = k;
         }
 

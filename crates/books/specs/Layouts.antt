@@ -22,7 +22,11 @@ sides (e ∷ es) = e .left ∷ e .right ∷ sides es
 abbrev pub sides-of : Book → List Term
 sides-of b = sides (b .eqs) ++ sides (b .rules)
 
--- side i stands from start i up to start i + 1
+-- where side i starts and ends
+abbrev pub Bounds : Layout → ℕ → ℕ → ℕ → Type 0
+Bounds l i a z = (a ≡ getD (l .starts) i 0) × (z ≡ getD (l .starts) (i + 1) 0)
+
+-- each side stands from its start to its end
 pub record Laid (s : List ℕ) (b : Book) (l : Layout) : Type 0 where
   pub signs : l .signs ≡ length (b .parts)
   pub equations : l .equations ≡ length (b .eqs)
@@ -34,15 +38,23 @@ abbrev pub Book-read : List ℕ → Maybe Layout → Type 0
 Book-read s (Some l) = Reads s (book-of s) × Laid s (book-of s) l
 Book-read s None = (b : Book) → Reads s b → ⊥
 
+-- none has more than 4; no two are equal
+abbrev pub Few-parts : List ℕ → Type 0
+Few-parts ps = (f : ℕ) → f < length ps → getD ps f 0 ≤ 4
+
+abbrev pub All-differ : List ℕ → Type 0
+All-differ xs = (i j : ℕ) → i < j → j < length xs → getD xs i 0 ≡ getD xs j 0 → ⊥
+
 -- the numbers at the start are a book's
 pub record Head-fine (s : List ℕ) : Type 0 where
   pub long : body-of s ≤ length s
   pub some-sign : 1 ≤ signs-of s
   pub few-signs : signs-of s ≤ 32
-  pub few-parts : (f : ℕ) → f < length (parts-of s) → getD (parts-of s) f 0 ≤ 4
-  pub differ : (i j : ℕ) → i < j → j < length (ranks-of s) → getD (ranks-of s) i 0 ≡ getD (ranks-of s) j 0 → ⊥
+  pub few-parts : Few-parts (parts-of s)
+  pub differ : All-differ (ranks-of s)
   pub few-eqs : eqs-of s ≤ 64
   pub few-rules : rules-of s ≤ 64
+
 -- these numbers, or that the words are no book
 abbrev pub Head-read : List ℕ → Maybe Head → Type 0
 Head-read s (Some h) = Head-fine s × (h .signs ≡ signs-of s) × (h .equations ≡ eqs-of s) × (h .rules ≡ rules-of s)
@@ -52,6 +64,7 @@ Head-read s None = (b : Book) → Reads s b → ⊥
 abbrev pub listed : Terms → List Term
 listed none1 = []
 listed (and1 t ts) = t ∷ listed ts
+
 abbrev pub Short : Terms → Type 0
 Short none1 = Unit {0}
 Short (and1 t ts) = (size t ≤ 32) × Short ts
@@ -66,6 +79,7 @@ pub record Sides-at (ps ws : List ℕ) (n a z : ℕ) (starts : List ℕ) : Type 
   pub each : (i : ℕ) (t : Term) → nth (listed terms) i ≡ some t → Term-at ws (getD starts i 0) (getD starts (i + 1) 0) t
   pub last : getD starts n 0 ≡ z
   pub within : z ≤ length ws
+
 -- n sides stand from place a to the end of the words, or don't
 abbrev pub Sides-read : List ℕ → List ℕ → ℕ → ℕ → Maybe (List ℕ) → Type 0
 Sides-read ps ws n a (Some starts) = Sides-at ps ws n a (length ws) starts

@@ -3,7 +3,7 @@ use mathlib.Core.Path.{_≡_}
 use mathlib.Core.List.{List, [], _∷_, _++_}
 use Prim.Native.Nat.{ℕ}
 use lib.ListN.{length}
-use Rattle.rewriting.specs.Terms.{Term, letter, sign, Terms, none1, and1, Over, Any-letter, Ok, Fits}
+use Rattle.rewriting.specs.Terms.{Term, letter, sign, Terms, none1, and1, Ok, Fits}
 use Rattle.rewriting.specs.Rules.{Eq}
 use Rattle.rewriting.specs.Books.{Book, Fine}
 
@@ -60,3 +60,7 @@ pub record Ways-row (ps : List ℕ) (n : ℕ) (h : List ℕ) (ws : List (List Te
   pub written : rowWays ws ≡ h
   pub each : length ws ≡ n
   pub fit : Ways-fit ps ws
+
+-- the words say some ways
+abbrev pub Some-ways : List ℕ → ℕ → List ℕ → Type 0
+Some-ways ps n h = (ws : List (List Term)) × Ways-row ps n h ws

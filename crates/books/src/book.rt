@@ -1,12 +1,13 @@
 // Reading a book's row.
 ghost use mathlib.Core.Path.{_≡_};
-ghost use mathlib.Core.Bool.{true, false};
 ghost use Prim.Native.Nat.{ℕ, _+_, _*_, _≤_, _<_};
 ghost use lib.ListN.{length, getD};
+ghost use Rattle.rewriting.specs.Answers.{Tells};
+ghost use Rattle.books.specs.Layouts.{Few-parts as FewParts};
+ghost use Rattle.books.specs.Layouts.{All-differ as AllDiffer};
 ghost use Rattle.books.specs.Layouts.{Head-read as HeadRead};
 ghost use Rattle.books.specs.Layouts.{Sides-read as SidesRead};
 ghost use Rattle.books.specs.Layouts.{Book-read as BookRead};
-
 use crate::layout::Layout;
 use crate::words::Letters;
 use crate::words::term_end;
@@ -20,8 +21,7 @@ struct Head {
 }
 
 fn few_parts(parts: &[u32]) -> bool
-    ensures yes { λ r. ⌜ (r ≡ true → (f : ℕ) → f < length (now (parts .entry)) → getD (now (parts .entry)) f 0 ≤ 4) ⌝ }
-    ensures no { λ r. ⌜ (r ≡ false → (f : ℕ) × (f < length (now (parts .entry))) × (4 < getD (now (parts .entry)) f 0)) ⌝ }
+    ensures { λ r. ⌜ Tells r (FewParts (now (parts .entry))) ⌝ }
 {
     for n in parts {
         if *n > 4 {
@@ -34,8 +34,7 @@ fn few_parts(parts: &[u32]) -> bool
 // Whether element j stands before it too.
 fn repeats(xs: &[u32], j: usize) -> bool
     requires { ⌜ j < length (now xs) ⌝ }
-    ensures yes { λ r. ⌜ (r ≡ true → (i : ℕ) × (i < j) × (getD (now (xs .entry)) i 0 ≡ getD (now (xs .entry)) j 0)) ⌝ }
-    ensures no { λ r. ⌜ (r ≡ false → (i : ℕ) → i < j → getD (now (xs .entry)) i 0 ≡ getD (now (xs .entry)) j 0 → ⊥) ⌝ }
+    ensures { λ r. ⌜ Tells r ((i : ℕ) × (i < j) × (getD (now (xs .entry)) i 0 ≡ getD (now (xs .entry)) j 0)) ⌝ }
 {
     for i in 0..j {
         if xs[i] == xs[j] {
@@ -46,8 +45,7 @@ fn repeats(xs: &[u32], j: usize) -> bool
 }
 
 fn all_differ(xs: &[u32]) -> bool
-    ensures yes { λ r. ⌜ (r ≡ true → (i j : ℕ) → i < j → j < length (now (xs .entry)) → getD (now (xs .entry)) i 0 ≡ getD (now (xs .entry)) j 0 → ⊥) ⌝ }
-    ensures no { λ r. ⌜ (r ≡ false → (i : ℕ) × (j : ℕ) × (i < j) × (j < length (now (xs .entry))) × (getD (now (xs .entry)) i 0 ≡ getD (now (xs .entry)) j 0)) ⌝ }
+    ensures { λ r. ⌜ Tells r (AllDiffer (now (xs .entry))) ⌝ }
 {
     for j in 0..xs.len() {
         if repeats(xs, j) {

@@ -1,8 +1,8 @@
 // Where the sides of a book stand in its row.
 ghost use mathlib.Core.Path.{_≡_};
-ghost use Prim.Native.Nat.{_+_, _≤_};
-ghost use lib.ListN.{getD};
+ghost use Prim.Native.Nat.{_≤_};
 ghost use Rattle.std.specs.Options.{Cases as BySome};
+ghost use Rattle.books.specs.Layouts.{Bounds};
 
 // Side i stands from starts[i] up to starts[i + 1]. Each equation and rule has two, its left and its right, the equations first.
 #[derive(Clone, Copy)]
@@ -34,7 +34,7 @@ impl Layout {
 
     // Where side i starts, and where it ends.
     pub fn side(&self, i: usize) -> Option<(usize, usize)>
-        ensures { λ r. ⌜ BySome r (256 ≤ i) (λ p. (p .0 ≡ getD (now (self .entry) .starts) i 0) × (p .1 ≡ getD (now (self .entry) .starts) (i + 1) 0)) ⌝ }
+        ensures { λ r. ⌜ BySome r (256 ≤ i) (λ p. Bounds (now (self .entry)) i (p .0) (p .1)) ⌝ }
     {
         if i < 256 {
             Some((self.starts[i], self.starts[i + 1]))

@@ -15,11 +15,9 @@ pub use ways::is_term;
 // A row is the writing of at most one book, of at most one term, and of at most one list of ways.
 pub fn one_reading()
     ensures { λ _. ⌜ OneReading ⌝ }
-{
-}
+{}
 
 // The row of a sum.
 pub fn sum_row()
     ensures { λ _. ⌜ SumRow ⌝ }
-{
-}
+{}

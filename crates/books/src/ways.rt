@@ -1,19 +1,15 @@
 // Reading rows of single terms and of ways.
-ghost use mathlib.Core.Path.{_≡_};
-ghost use mathlib.Core.Bool.{true, false};
-ghost use mathlib.Core.List.{List};
+ghost use Rattle.rewriting.specs.Answers.{Tells};
 ghost use Rattle.rewriting.specs.Terms.{Term};
 ghost use Rattle.books.specs.Rows.{Of};
-ghost use Rattle.books.specs.Rows.{Ways-row as WaysRow};
-
+ghost use Rattle.books.specs.Rows.{Some-ways as SomeWays};
 use crate::words::Letters;
 use crate::words::term_end;
 use crate::words::terms_end;
 
 // Whether the words are a term of the signature, with letters below 16.
 pub fn is_term(parts: &[u32], words: &[u32]) -> bool
-    ensures yes { λ r. ⌜ (r ≡ true → (t : Term) × Of (now (parts .entry)) (now (words .entry)) t) ⌝ }
-    ensures no { λ r. ⌜ (r ≡ false → (t : Term) → Of (now (parts .entry)) (now (words .entry)) t → ⊥) ⌝ }
+    ensures { λ r. ⌜ Tells r ((t : Term) × Of (now (parts .entry)) (now (words .entry)) t) ⌝ }
 {
     match term_end(Letters::Small, parts, words, 0) {
         Some(end) => end == words.len(),
@@ -23,8 +19,7 @@ pub fn is_term(parts: &[u32], words: &[u32]) -> bool
 
 // Whether the words are as many ways of terms of the signature, with any letters, as there are rules.
 pub fn are_ways(parts: &[u32], rules: usize, words: &[u32]) -> bool
-    ensures yes { λ r. ⌜ (r ≡ true → (ws : List (List Term)) × WaysRow (now (parts .entry)) rules (now (words .entry)) ws) ⌝ }
-    ensures no { λ r. ⌜ (r ≡ false → (ws : List (List Term)) → WaysRow (now (parts .entry)) rules (now (words .entry)) ws → ⊥) ⌝ }
+    ensures { λ r. ⌜ Tells r (SomeWays (now (parts .entry)) rules (now (words .entry))) ⌝ }
 {
     let mut at = 0;
     for _ in 0..rules {

@@ -1,1 +1,24 @@
 -- Proofs of the theorems.
+pub mod Choosing
+pub mod Replacing
+pub mod Stepping
+pub mod Signature
+pub mod Ordering
+pub mod Grounding
+pub mod Newman
+pub mod Terminating
+pub mod Comparing
+pub mod Matching
+pub mod Reducts
+pub mod Height
+pub mod Cleaning
+pub mod Settling
+pub mod Letters
+pub mod Unifying
+pub mod Splitting
+pub mod Peaks
+pub mod Pairs
+pub mod Sums
+pub mod Bindings
+pub mod Waying
+pub mod Verdicts

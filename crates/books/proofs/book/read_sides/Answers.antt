@@ -13,25 +13,26 @@ loop-i-holds c = (sides-none (c .args .parts .now) (c .args .words .now) (c .arg
 
 pub returns-in-rest : need.returns-in-rest
 returns-in-rest c =
-  no-side (c .args .parts .now) (c .args .words .now) (c .loop-i .i) (c .args .count) (c .args .from) (c .loop-i .at) (c .loop-i .starts)
+    no-side (c .args .parts .now) (c .args .words .now) (c .loop-i .i) (c .args .count) (c .args .from) (c .loop-i .at) (c .loop-i .starts)
     (c .loop-i .inv .0) (c .loop-i-test .taken) (c .in-rest .ensures tt)
 
 pub returns-then-end-at : need.returns-then-end-at
 returns-then-end-at c =
-  let t = c .in-Some .ensures tt in
-  long-side (c .args .parts .now) (c .args .words .now) (c .loop-i .i) (c .args .count) (c .args .from) (c .loop-i .at) (c .in-Some .end)
+    let t = c .in-Some .ensures tt in
+    long-side (c .args .parts .now) (c .args .words .now) (c .loop-i .i) (c .args .count) (c .args .from) (c .loop-i .at) (c .in-Some .end)
     (c .loop-i .starts) (c .loop-i .inv .0) (c .loop-i-test .taken) (t .0) (t .1) (t .2) (c .if-end-at .taken)
 
 pub loop-i-again : need.loop-i-again
 loop-i-again c =
-  let t = c .in-Some .ensures tt in
-  (sides-more (c .args .parts .now) (c .args .words .now) (c .loop-i .i) (c .args .from) (c .loop-i .at) (c .in-Some .end)
-    (c .loop-i .starts) (c .loop-i .inv .0) (omega (arith, c .loop-i .inv .1, c .pre .0)) (t .0) (t .1) (t .2) (c .if-end-at .left),
-   length-set (c .loop-i .starts) (c .loop-i .i + 1) (c .in-Some .end) ∙ c .loop-i .inv .1)
+    let t = c .in-Some .ensures tt in (
+      sides-more (c .args .parts .now) (c .args .words .now) (c .loop-i .i) (c .args .from) (c .loop-i .at) (c .in-Some .end)
+          (c .loop-i .starts) (c .loop-i .inv .0) (omega (arith, c .loop-i .inv .1, c .pre .0)) (t .0) (t .1) (t .2) (c .if-end-at .left),
+      length-set (c .loop-i .starts) (c .loop-i .i + 1) (c .in-Some .end) ∙ c .loop-i .inv .1,
+    )
 
 pub returns-else-at-words : need.returns-else-at-words
 returns-else-at-words c =
-  let all : c .loop-i .i ≡ c .args .count = omega arith in
-  more-words (c .args .parts .now) (c .args .words .now) (c .args .count) (c .args .from) (c .loop-i .at) (c .loop-i .starts)
-  (subst (λ (k : ℕ). Sides-at (c .args .parts .now) (c .args .words .now) k (c .args .from) (c .loop-i .at) (c .loop-i .starts)) all (c .loop-i .inv .0))
-  (c .if-at-words .left)
+    let all : c .loop-i .i ≡ c .args .count = omega arith in
+    let At : ℕ → Type 0 = λ k. Sides-at (c .args .parts .now) (c .args .words .now) k (c .args .from) (c .loop-i .at) (c .loop-i .starts) in
+    more-words (c .args .parts .now) (c .args .words .now) (c .args .count) (c .args .from) (c .loop-i .at) (c .loop-i .starts)
+    (subst At all (c .loop-i .inv .0)) (c .if-at-words .left)
