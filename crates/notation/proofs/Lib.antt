@@ -1,2 +1,3 @@
 -- Lemmas of the readable form.
 pub mod Places
+pub mod Heads

@@ -1,18 +1,19 @@
 // Books with their names: read from the readable form and written in it.
-ghost use mathlib.Core.Path.{_≡_};
-ghost use Prim.Native.Nat.{_+_, _*_, _≤_};
-ghost use Rattle.std.specs.Of.Vec.{vec-items, vec-len};
+ghost use Rattle.std.specs.Of.Vec.{vec-items};
+ghost use Rattle.std.specs.Options.{Cases as BySome};
 ghost use Rattle.std.specs.Vec.{made};
-ghost use Rattle.notation.specs.Rows.{Is-book as IsBook};
+ghost use Rattle.notation.specs.Rows.{Book-ways as BookWays};
 use crate::fault::Error;
 use crate::fault::ErrorFromAlloc;
 use crate::fault::ErrorFromRefused;
 use crate::fault::Expected;
 use crate::parser::Parser;
+use crate::printer::Printer;
 use crate::sections::MOST_WORDS;
 use crate::sections::Sides;
 use crate::signature::Signature;
 use books::Layout;
+use books::are_ways;
 use books::read_book;
 use std::alloc::AllocError;
 use std::alloc::Global;
@@ -40,27 +41,70 @@ fn add_head(words: &mut Vec<u32>, signature: &Signature, sides: &Sides) -> Resul
     Ok(())
 }
 
-// Reads a book in the readable form. The words that it gives are a book's row.
+// Where the sides stand, if the words are a book's row, and the other words ways for its rules.
+fn read_both(words: &[u32], ways: &[u32]) -> Option<Layout>
+    ensures { λ r. ⌜ BySome r (Unit {0}) (BookWays (now (words .entry)) (now (ways .entry))) ⌝ }
+{
+    let Some(layout) = read_book(words) else {
+        return None;
+    };
+    let parts = &words[1..1 + layout.signs()];
+    if are_ways(parts, layout.rules(), ways) {
+        Some(layout)
+    } else {
+        None
+    }
+}
+
+// Reads a book in the readable form. Its words are a book's row, and its ways' words ways for the book's rules.
 pub fn parse(heap: Global, text: &str) -> Result<Book, Error>
-    ensures book { λ r. ⌜ made r (λ k. IsBook (vec-items (k .words))) ⌝ }
-    ensures ways { λ r. ⌜ made r (λ k. vec-len (k .ways) ≤ 16451) ⌝ }
+    ensures { λ r. ⌜ made r (λ k. BookWays (vec-items (k .words)) (vec-items (k .ways)) (k .layout)) ⌝ }
 {
     let mut parser = Parser::new(heap, text.as_bytes());
     let sides = parser.sections()?;
     let mut words = Vec::with_capacity(heap, MOST_WORDS)?;
     add_head(&mut words, &parser.signature, &sides)?;
     words.extend_from_slice(sides.row.as_slice())?;
-    match read_book(words.as_slice()) {
+    match read_both(words.as_slice(), sides.ways.as_slice()) {
         Some(layout) => {
             let Parser { signature, .. } = parser;
             let Sides { ways, .. } = sides;
-            Ok(Book {
-                signature,
-                words,
-                ways,
-                layout,
-            })
+            Ok(Book { signature, words, ways, layout })
         }
         None => Err(parser.fault(Expected::Words("a book"))),
+    }
+}
+
+impl Book {
+    // The book in the readable form.
+    pub fn to_text(&self, heap: Global) -> Result<String, AllocError> {
+        let mut printer = Printer::new(heap, &self.signature);
+        printer.add_book(self.words.as_slice(), self.layout, self.ways.as_slice())?;
+        Ok(printer.text())
+    }
+
+    // The equation or rule with this number, the rules counted after the equations; nothing where there is none.
+    fn pair_text(&self, heap: Global, number: usize, mark: &str) -> Result<String, AllocError> {
+        let mut printer = Printer::new(heap, &self.signature);
+        if number < 128 && let Some((start, _)) = self.layout.side(2 * number) {
+            printer.add_sides(self.words.as_slice(), start, mark)?;
+        }
+        Ok(printer.text())
+    }
+
+    // The equation with this number, from 0; nothing where there is none.
+    pub fn equation_text(&self, heap: Global, number: usize) -> Result<String, AllocError> {
+        if number >= self.layout.equations() {
+            return Ok(String::new(heap));
+        }
+        self.pair_text(heap, number, " = ")
+    }
+
+    // The rule with this number, from 0; nothing where there is none.
+    pub fn rule_text(&self, heap: Global, number: usize) -> Result<String, AllocError> {
+        if number >= self.layout.rules() {
+            return Ok(String::new(heap));
+        }
+        self.pair_text(heap, number.saturating_add(self.layout.equations()), " -> ")
     }
 }

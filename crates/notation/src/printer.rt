@@ -2,6 +2,7 @@
 ghost use Prim.Native.Nat.{_≤_};
 ghost use Rattle.std.specs.Vec.{made};
 use crate::signature::Signature;
+use books::Layout;
 use books::words::Symbol;
 use books::words::symbol_at;
 use std::alloc::AllocError;
@@ -114,5 +115,82 @@ impl<'a> Printer<'a> {
         let middle = self.add_term(words, at)?;
         self.add(mark)?;
         self.add_term(words, middle)
+    }
+
+    // Adds the section of the signs; their ranks only where these do not rise in order from 0.
+    fn add_signs(&mut self) -> Result<(), AllocError> {
+        let signature = self.signature;
+        let ranked = !signature.ranks_rise();
+        self.add("signs")?;
+        for sign in signature.signs.iter() {
+            self.add(" ")?;
+            self.add(sign.name.as_str())?;
+            self.add("/")?;
+            self.add_number(sign.parts)?;
+            if ranked {
+                self.add(" rank ")?;
+                self.add_number(sign.rank)?;
+            }
+        }
+        Ok(())
+    }
+
+    fn add_letters(&mut self) -> Result<(), AllocError> {
+        let signature = self.signature;
+        self.add("\nletters")?;
+        for letter in signature.letters.iter() {
+            self.add(" ")?;
+            self.add(letter.as_str())?;
+        }
+        Ok(())
+    }
+
+    // Adds the equations, whose sides start at a place of the row, and tells the place after them.
+    fn add_equations(&mut self, words: &[u32], at: usize, count: usize) -> Result<usize, AllocError> {
+        let mut place = at;
+        self.add("\nequations")?;
+        for _i in 0..count {
+            self.add("\n  ")?;
+            place = self.add_sides(words, place, " = ")?;
+        }
+        Ok(place)
+    }
+
+    // Adds the way that stands at a place of the ways' row, and tells the place after it.
+    fn add_way(&mut self, ways: &[u32], at: usize) -> Result<usize, AllocError> {
+        let Some(count) = ways.get(at) else {
+            return Ok(at);
+        };
+        let mut place = at + 1;
+        for _i in 0..*count {
+            self.add("\n    = ")?;
+            place = self.add_term(ways, place)?;
+        }
+        Ok(place)
+    }
+
+    // Adds the rules, whose sides start at a place of the row, each with its way.
+    fn add_rules(&mut self, words: &[u32], at: usize, count: usize, ways: &[u32]) -> Result<(), AllocError> {
+        let mut place = at;
+        let mut way = 0;
+        self.add("\nrules")?;
+        for _i in 0..count {
+            self.add("\n  ")?;
+            place = self.add_sides(words, place, " -> ")?;
+            way = self.add_way(ways, way)?;
+        }
+        Ok(())
+    }
+
+    // Adds all sections of a book.
+    pub(crate) fn add_book(&mut self, words: &[u32], layout: Layout, ways: &[u32]) -> Result<(), AllocError> {
+        let Some((first, _)) = layout.side(0) else {
+            return Ok(());
+        };
+        self.add_signs()?;
+        self.add_letters()?;
+        let place = self.add_equations(words, first, layout.equations())?;
+        self.add_rules(words, place, layout.rules(), ways)?;
+        self.add("\n")
     }
 }

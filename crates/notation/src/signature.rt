@@ -73,4 +73,14 @@ impl Signature {
         }
         false
     }
+
+    // Whether the ranks are 0, 1, 2 and so on.
+    pub fn ranks_rise(&self) -> bool {
+        for (sign, rank) in self.signs.iter().zip(0..u32::MAX) {
+            if sign.rank != rank {
+                return false;
+            }
+        }
+        true
+    }
 }
