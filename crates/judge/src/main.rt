@@ -2,8 +2,11 @@
 mod options;
 
 use books::read_book;
+use notation::fault::Error;
 use notation::fault::ErrorDisplay;
 use notation::fault::ErrorFromAlloc;
+use notation::fault::Place;
+use notation::fault::place_after;
 use notation::parse;
 use notation::read_rows;
 use options::Asked;
@@ -43,12 +46,6 @@ impl From<AllocError> for Stopped as StoppedFromAlloc {
     }
 }
 
-// Tells why the program stops.
-fn stop(rt: &LibcRuntime, why: &str) -> Stopped {
-    let _ = eprintln!(rt, "{why}");
-    Stopped
-}
-
 // All that the reader gives, but not much more than the longest text.
 fn read_all<R: Read + Drop>(heap: Global, reader: R) -> io::Result<Vec<u8>> {
     let mut bytes = Vec::with_capacity(heap, MOST_TEXT + 1)?;
@@ -56,16 +53,15 @@ fn read_all<R: Read + Drop>(heap: Global, reader: R) -> io::Result<Vec<u8>> {
     Ok(bytes)
 }
 
-fn read_input(rt: &LibcRuntime, name: &str) -> io::Result<Vec<u8>> {
-    if name == "-" {
-        return read_all(rt.alloc(), rt.stdin());
+fn read_input(rt: &LibcRuntime, file: Option<&str>) -> io::Result<Vec<u8>> {
+    match file {
+        None | Some("-") => read_all(rt.alloc(), rt.stdin()),
+        Some(name) => read_all(rt.alloc(), File::open(rt, name)?),
     }
-    read_all(rt.alloc(), File::open(rt, name)?)
 }
 
 // The first line of the answer.
-fn answer(rt: &LibcRuntime, text: &str, rows: bool) -> Result<String, notation::fault::Error> {
-    let heap = rt.alloc();
+fn answer(heap: Global, text: &str, rows: bool) -> Result<String, Error> {
     let words = if rows {
         read_rows(heap, text)?.book
     } else {
@@ -87,15 +83,13 @@ fn answer(rt: &LibcRuntime, text: &str, rows: bool) -> Result<String, notation::
     }
 }
 
-fn judge(rt: &LibcRuntime, options: Options<'_>) -> Result<(), Stopped> {
-    let name = options.file.unwrap_or("-");
-    let bytes = match read_input(rt, name) {
-        Ok(bytes) => bytes,
-        Err(e) => {
-            eprintln!(rt, "judge: {name}: {e}")?;
-            return Err(Stopped);
-        }
-    };
+// Reads the text of a file, and answers.
+fn judge_bytes(
+    rt: &LibcRuntime,
+    name: &str,
+    bytes: &[u8],
+    options: Options<'_>,
+) -> Result<(), Stopped> {
     if bytes.len() > MOST_TEXT {
         eprintln!(
             rt,
@@ -103,14 +97,32 @@ fn judge(rt: &LibcRuntime, options: Options<'_>) -> Result<(), Stopped> {
         )?;
         return Err(Stopped);
     }
-    let Ok(text) = std::str::from_utf8(bytes.as_slice()) else {
-        eprintln!(rt, "judge: {name}: the text is not UTF-8")?;
-        return Err(Stopped);
+    let text = match std::str::from_utf8(bytes) {
+        Ok(text) => text,
+        Err(e) => {
+            let Place { line, column } = place_after(&bytes[0..e.valid_up_to().min(bytes.len())]);
+            eprintln!(rt, "{name}:{line}:{column}: expected UTF-8")?;
+            return Err(Stopped);
+        }
     };
-    match answer(rt, text, options.rows) {
+    match answer(rt.alloc(), text, options.rows) {
         Ok(line) => Ok(println!(rt, "{line}")?),
         Err(e) => {
             eprintln!(rt, "{name}:{e}")?;
+            Err(Stopped)
+        }
+    }
+}
+
+fn judge(rt: &LibcRuntime, options: Options<'_>) -> Result<(), Stopped> {
+    let name = match options.file {
+        None | Some("-") => "<stdin>",
+        Some(file) => file,
+    };
+    match read_input(rt, options.file) {
+        Ok(bytes) => judge_bytes(rt, name, bytes.as_slice(), options),
+        Err(e) => {
+            eprintln!(rt, "judge: {name}: {e}")?;
             Err(Stopped)
         }
     }

@@ -112,3 +112,50 @@ pub fn read_arguments(arguments: &[String]) -> Result<Asked<'_>, Refusal<'_>>
     }
     Ok(Asked::Judge(options))
 }
+
+#[cfg(test)]
+mod tests {
+    use super::*;
+    use std::test::*;
+
+    // Arguments, one to a line, and what is told of them.
+    const ASKED: [(&str, &str); 9] = [
+        ("", "judge: rows false, work 851968, no file"),
+        (
+            "--rows\nsums.book\n--work\n20000",
+            "judge: rows true, work 20000, sums.book",
+        ),
+        ("-", "judge: rows false, work 851968, -"),
+        ("--rows\n--help\n--foo", "help"),
+        ("--version", "version"),
+        ("--foo", "there is no option `--foo`; see --help"),
+        ("a\nb", "one file is judged at a time, and `b` is a second"),
+        ("a\n--work", "--work wants a number after it"),
+        (
+            "--work\n851969",
+            "--work wants a number up to 851968, and `851969` is none",
+        ),
+    ];
+
+    #[test]
+    fn arguments(rt: LibcRuntime) -> Result<(), Fail> {
+        let heap = rt.alloc();
+        for (lines, wanted) in ASKED.iter() {
+            let mut words = Vec::new(heap);
+            for line in lines.lines() {
+                words.push(String::from_str(heap, line)?)?;
+            }
+            let found = match read_arguments(words.as_slice()) {
+                Ok(Asked::Help) => String::from_str(heap, "help")?,
+                Ok(Asked::Version) => String::from_str(heap, "version")?,
+                Ok(Asked::Judge(Options { rows, work, file })) => {
+                    let file = file.unwrap_or("no file");
+                    format!(heap, "judge: rows {rows}, work {work}, {file}")?
+                }
+                Err(refusal) => refusal.to_string(heap)?,
+            };
+            check_eq(found.as_str(), *wanted)?;
+        }
+        Ok(())
+    }
+}

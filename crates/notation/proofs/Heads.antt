@@ -25,12 +25,12 @@ module _ (s : List ℕ) (b : Book) (l : Layout) (r : Reads s b) (p : Laid s b l)
   pub parts-within : 1 + n ≤ length s
   unfolding after
   parts-within =
-    let long : length (rowB b) ≡ 1 + length (b .parts ++ after b) = sym (one-add _) in
-    omega (arith, long, ap length (r .is), length-append (b .parts) (after b), p .signs)
+      let long : length (rowB b) ≡ 1 + length (b .parts ++ after b) = sym (one-add _) in
+      omega (arith, long, ap length (r .is), length-append (b .parts) (after b), p .signs)
 
   -- ways for the parts that stand there are ways for the book's rules
   pub ways-here : (h : List ℕ) (m : ℕ) → m ≡ l .rules → Some-ways (take (1 + n - 1) (drop 1 s)) m h → Book-ways s h l
   ways-here h m d w =
-    let n-is : 1 + n - 1 ≡ length (b .parts) = omega (arith, p .signs) in
-    let parts = ap (λ k. take k (drop 1 s)) n-is ∙ parts-here s b r in
-    (b, r, p, subst (λ k. Some-ways (b .parts) k h) (d ∙ p .rules) (subst (λ ps. Some-ways ps m h) parts w))
+      let n-is : 1 + n - 1 ≡ length (b .parts) = omega (arith, p .signs) in
+      let parts = ap (λ k. take k (drop 1 s)) n-is ∙ parts-here s b r in
+      (b, r, p, subst (λ k. Some-ways (b .parts) k h) (d ∙ p .rules) (subst (λ ps. Some-ways ps m h) parts w))

@@ -1,4 +1,8 @@
 // Books with their names: read from the readable form and written in it.
+ghost use mathlib.Core.List.{[]};
+ghost use mathlib.Core.Path.{_≡_};
+ghost use Prim.Native.Nat.{_≤_};
+ghost use Rattle.std.specs.Of.String.{string-bytes};
 ghost use Rattle.std.specs.Of.Vec.{vec-items};
 ghost use Rattle.std.specs.Options.{Cases as BySome};
 ghost use Rattle.std.specs.Vec.{made};
@@ -69,7 +73,12 @@ pub fn parse(heap: Global, text: &str) -> Result<Book, Error>
         Some(layout) => {
             let Parser { signature, .. } = parser;
             let Sides { ways, .. } = sides;
-            Ok(Book { signature, words, ways, layout })
+            Ok(Book {
+                signature,
+                words,
+                ways,
+                layout,
+            })
         }
         None => Err(parser.fault(Expected::Words("a book"))),
     }
@@ -86,14 +95,18 @@ impl Book {
     // The equation or rule with this number, the rules counted after the equations; nothing where there is none.
     fn pair_text(&self, heap: Global, number: usize, mark: &str) -> Result<String, AllocError> {
         let mut printer = Printer::new(heap, &self.signature);
-        if number < 128 && let Some((start, _)) = self.layout.side(2 * number) {
+        if number < 128
+            && let Some((start, _)) = self.layout.side(2 * number)
+        {
             printer.add_sides(self.words.as_slice(), start, mark)?;
         }
         Ok(printer.text())
     }
 
     // The equation with this number, from 0; nothing where there is none.
-    pub fn equation_text(&self, heap: Global, number: usize) -> Result<String, AllocError> {
+    pub fn equation_text(&self, heap: Global, number: usize) -> Result<String, AllocError>
+        ensures { λ r. ⌜ (now (self .entry) .layout .equations ≤ number → made r (λ t. string-bytes t ≡ [])) ⌝ }
+    {
         if number >= self.layout.equations() {
             return Ok(String::new(heap));
         }
@@ -101,7 +114,9 @@ impl Book {
     }
 
     // The rule with this number, from 0; nothing where there is none.
-    pub fn rule_text(&self, heap: Global, number: usize) -> Result<String, AllocError> {
+    pub fn rule_text(&self, heap: Global, number: usize) -> Result<String, AllocError>
+        ensures { λ r. ⌜ (now (self .entry) .layout .rules ≤ number → made r (λ t. string-bytes t ≡ [])) ⌝ }
+    {
         if number >= self.layout.rules() {
             return Ok(String::new(heap));
         }

@@ -164,7 +164,7 @@ fn found_at(heap: Global, token: Token<'_>) -> Result<Found, AllocError> {
 }
 
 // The error that the token stands where something else was expected.
-pub fn fault_at(heap: Global, text: &[u8], token: Token<'_>, expected: Expected) -> Error {
+pub(crate) fn fault_at(heap: Global, text: &[u8], token: Token<'_>, expected: Expected) -> Error {
     let Place { line, column } = place_after(&text[0..token.start.min(text.len())]);
     match found_at(heap, token) {
         Ok(found) => Error::Fault(Fault {

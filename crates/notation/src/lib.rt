@@ -1,11 +1,11 @@
 // The readable form of books: names for signs and letters, equations and rules as one writes them on paper.
 mod book;
 pub mod fault;
-pub mod lexer;
+mod lexer;
 mod parser;
 mod printer;
-pub mod rows;
-pub mod sections;
+mod rows;
+mod sections;
 pub mod signature;
 mod terms;
 
@@ -13,3 +13,4 @@ pub use book::Book;
 pub use book::parse;
 pub use rows::Rows;
 pub use rows::read_rows;
+pub use sections::MOST_WORDS;

@@ -146,7 +146,12 @@ impl<'a> Printer<'a> {
     }
 
     // Adds the equations, whose sides start at a place of the row, and tells the place after them.
-    fn add_equations(&mut self, words: &[u32], at: usize, count: usize) -> Result<usize, AllocError> {
+    fn add_equations(
+        &mut self,
+        words: &[u32],
+        at: usize,
+        count: usize,
+    ) -> Result<usize, AllocError> {
         let mut place = at;
         self.add("\nequations")?;
         for _i in 0..count {
@@ -170,7 +175,13 @@ impl<'a> Printer<'a> {
     }
 
     // Adds the rules, whose sides start at a place of the row, each with its way.
-    fn add_rules(&mut self, words: &[u32], at: usize, count: usize, ways: &[u32]) -> Result<(), AllocError> {
+    fn add_rules(
+        &mut self,
+        words: &[u32],
+        at: usize,
+        count: usize,
+        ways: &[u32],
+    ) -> Result<(), AllocError> {
         let mut place = at;
         let mut way = 0;
         self.add("\nrules")?;
@@ -183,7 +194,12 @@ impl<'a> Printer<'a> {
     }
 
     // Adds all sections of a book.
-    pub(crate) fn add_book(&mut self, words: &[u32], layout: Layout, ways: &[u32]) -> Result<(), AllocError> {
+    pub(crate) fn add_book(
+        &mut self,
+        words: &[u32],
+        layout: Layout,
+        ways: &[u32],
+    ) -> Result<(), AllocError> {
         let Some((first, _)) = layout.side(0) else {
             return Ok(());
         };

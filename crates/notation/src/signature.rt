@@ -1,8 +1,6 @@
 // The names of a book: its signs, with their parts and ranks, and its letters.
-ghost use Prim.Native.Nat.{_<_};
-ghost use Rattle.std.specs.Of.Vec.{vec-len};
 ghost use Rattle.std.specs.Options.{Cases as BySome};
-ghost use Rattle.notation.specs.Names.{Declared};
+ghost use Rattle.notation.specs.Names.{Letter-named as LetterNamed, Sign-named as SignNamed, Named};
 use books::words::Symbol;
 use std::alloc::Global;
 
@@ -30,7 +28,7 @@ impl Signature {
     }
 
     fn sign_named(&self, name: &[u8]) -> Option<u32>
-        ensures { λ r. ⌜ BySome r (Unit {0}) (λ i. i < vec-len (now (self .entry) .signs)) ⌝ }
+        ensures { λ r. ⌜ BySome r (Unit {0}) (SignNamed (now (self .entry) .signs) (now (name .entry))) ⌝ }
     {
         for (i, sign) in self.signs.iter().enumerate() {
             if sign.name.as_bytes() == name {
@@ -41,7 +39,7 @@ impl Signature {
     }
 
     fn letter_named(&self, name: &[u8]) -> Option<u32>
-        ensures { λ r. ⌜ BySome r (Unit {0}) (λ i. i < vec-len (now (self .entry) .letters)) ⌝ }
+        ensures { λ r. ⌜ BySome r (Unit {0}) (LetterNamed (now (self .entry) .letters) (now (name .entry))) ⌝ }
     {
         for (i, letter) in self.letters.iter().enumerate() {
             if letter.as_bytes() == name {
@@ -53,7 +51,7 @@ impl Signature {
 
     // What the name stands for, if anything.
     pub fn named(&self, name: &[u8]) -> Option<Symbol>
-        ensures { λ r. ⌜ BySome r (Unit {0}) (Declared (now (self .entry))) ⌝ }
+        ensures { λ r. ⌜ BySome r (Unit {0}) (Named (now (self .entry)) (now (name .entry))) ⌝ }
     {
         if let Some(i) = self.sign_named(name) {
             return Some(Symbol::Sign(i));
