@@ -2,3 +2,4 @@
 pub mod Places
 pub mod Heads
 pub mod Names
+pub mod Signs

@@ -21,7 +21,8 @@ use Rattle.std.specs.Options.{Cases}
 use Rattle.std.specs.Results.{okPart}
 
 -- what holds of a number holds of what it is converted to, if it is
-pub converted : {E : Type 0} (P : ℕ → Type 0) (r : Result ℕ E) (o : Option ℕ) (i : ℕ) (Q : Type 0) → o ≡ okPart r → Converted r Q i → P i → Cases o (Unit {0}) P
+pub converted : {E : Type 0} (P : ℕ → Type 0) (r : Result ℕ E) (o : Option ℕ) (i : ℕ) (Q : Type 0) →
+    o ≡ okPart r → Converted r Q i → P i → Cases o (Unit {0}) P
 converted P (Ok x) o i Q e c p = subst (λ q. Cases q (Unit {0}) P) (sym e) (subst P (sym (c .1)) p)
 converted P (Err x) o i Q e c p = subst (λ q. Cases q (Unit {0}) P) (sym e) tt
 

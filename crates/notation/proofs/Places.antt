@@ -7,7 +7,8 @@ use Rattle.notation.specs.declared.fault.Place.{Place}
 use Rattle.notation.specs.Places.{past}
 
 -- both numbers rise by at most one, or a line begins
-pub past-within : (p : Place) (b n : ℕ) → p .line ≤ n + 1 → p .column ≤ n + 1 → (past p b .line ≤ n + 2) × (past p b .column ≤ n + 2)
+pub past-within : (p : Place) (b n : ℕ) → p .line ≤ n + 1 → p .column ≤ n + 1 →
+    (past p b .line ≤ n + 2) × (past p b .column ≤ n + 2)
 past-within p b n l k = (line (eqb b 10), column (eqb b 10) (ltb b 128 || leb 192 b))
   where
     line : (c : Bool) → cond c (p .line + 1) (p .line) ≤ n + 2

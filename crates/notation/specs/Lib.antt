@@ -3,3 +3,4 @@ pub mod Tokens
 pub mod Places
 pub mod Names
 pub mod Rows
+pub mod Books

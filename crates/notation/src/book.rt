@@ -1,5 +1,5 @@
 // Books with their names: read from the readable form and written in it.
-ghost use mathlib.Core.List.{[]};
+ghost use mathlib.Core.List.{[], _++_};
 ghost use mathlib.Core.Path.{_≡_};
 ghost use Prim.Native.Nat.{_≤_};
 ghost use Rattle.std.specs.Of.String.{string-bytes};
@@ -7,14 +7,15 @@ ghost use Rattle.std.specs.Of.Vec.{vec-items};
 ghost use Rattle.std.specs.Options.{Cases as BySome};
 ghost use Rattle.std.specs.Vec.{made};
 ghost use Rattle.notation.specs.Rows.{Book-ways as BookWays};
+ghost use Rattle.notation.specs.Books.{parts-in, ranks-in, row-with, Whole};
 use crate::fault::Error;
 use crate::fault::ErrorFromAlloc;
-use crate::fault::ErrorFromRefused;
 use crate::fault::Expected;
 use crate::parser::Parser;
 use crate::printer::Printer;
 use crate::sections::MOST_WORDS;
 use crate::sections::Sides;
+use crate::signature::Sign;
 use crate::signature::Signature;
 use books::Layout;
 use books::are_ways;
@@ -31,18 +32,36 @@ pub struct Book {
     pub layout: Layout,
 }
 
-// Adds the numbers at the start of a book's row: how many signs there are, the parts and the rank of each, how many equations and rules.
-fn add_head(words: &mut Vec<u32>, signature: &Signature, sides: &Sides) -> Result<(), AllocError> {
-    words.push(sides.signs)?;
-    for sign in signature.signs.iter() {
+fn add_parts(words: &mut Vec<u32>, signs: &[Sign]) -> Result<(), AllocError>
+    ensures { λ r. ⌜ made r (λ _. vec-items (now (words .exit)) ≡ vec-items (now (words .entry)) ++ parts-in (now (signs .entry))) ⌝ }
+{
+    for sign in signs {
         words.push(sign.parts)?;
     }
-    for sign in signature.signs.iter() {
+    Ok(())
+}
+
+fn add_ranks(words: &mut Vec<u32>, signs: &[Sign]) -> Result<(), AllocError>
+    ensures { λ r. ⌜ made r (λ _. vec-items (now (words .exit)) ≡ vec-items (now (words .entry)) ++ ranks-in (now (signs .entry))) ⌝ }
+{
+    for sign in signs {
         words.push(sign.rank)?;
     }
+    Ok(())
+}
+
+// The row of a book with these signs and these sides.
+fn book_row(heap: Global, signs: &[Sign], sides: &Sides) -> Result<Vec<u32>, AllocError>
+    ensures { λ r. ⌜ made r (λ v. vec-items v ≡ row-with (now (signs .entry)) (now (sides .entry))) ⌝ }
+{
+    let mut words = Vec::with_capacity(heap, MOST_WORDS)?;
+    words.push(sides.signs)?;
+    add_parts(&mut words, signs)?;
+    add_ranks(&mut words, signs)?;
     words.push(sides.equations)?;
     words.push(sides.rules)?;
-    Ok(())
+    words.extend_from_slice(sides.row.as_slice())?;
+    Ok(words)
 }
 
 // Where the sides stand, if the words are a book's row, and the other words ways for its rules.
@@ -60,17 +79,16 @@ fn read_both(words: &[u32], ways: &[u32]) -> Option<Layout>
     }
 }
 
-// Reads a book in the readable form. Its words are a book's row, and its ways' words ways for the book's rules.
+// Reads a book in the readable form. Its words are the row of a book with the parts and ranks that its signs have, and its ways' words
+// are ways for the book's rules.
 pub fn parse(heap: Global, text: &str) -> Result<Book, Error>
-    ensures { λ r. ⌜ made r (λ k. BookWays (vec-items (k .words)) (vec-items (k .ways)) (k .layout)) ⌝ }
+    ensures { λ r. ⌜ made r Whole ⌝ }
 {
     let mut parser = Parser::new(heap, text.as_bytes());
     let sides = parser.sections()?;
-    let mut words = Vec::with_capacity(heap, MOST_WORDS)?;
-    add_head(&mut words, &parser.signature, &sides)?;
-    words.extend_from_slice(sides.row.as_slice())?;
+    let words = book_row(heap, parser.signature.signs.as_slice(), &sides)?;
     match read_both(words.as_slice(), sides.ways.as_slice()) {
-        Some(layout) => {
+        Some(layout) if layout.signs() == parser.signature.signs.len() => {
             let Parser { signature, .. } = parser;
             let Sides { ways, .. } = sides;
             Ok(Book {
@@ -80,7 +98,7 @@ pub fn parse(heap: Global, text: &str) -> Result<Book, Error>
                 layout,
             })
         }
-        None => Err(parser.fault(Expected::Words("a book"))),
+        _ => Err(parser.fault(Expected::Words("a book"))),
     }
 }
 
