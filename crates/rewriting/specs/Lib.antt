@@ -1,4 +1,5 @@
 -- Term rewriting: the definitions and theorems that the contracts cite.
+pub mod Answers
 pub mod Terms
 pub mod Rules
 pub mod Different

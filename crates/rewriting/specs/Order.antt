@@ -3,7 +3,7 @@ use mathlib.Core.Path.{_≡_}
 use mathlib.Core.List.{List, [], _∷_}
 use mathlib.Core.Option.{some}
 use Prim.Native.Nat.{ℕ, zero, suc, _<_}
-use Rattle.rewriting.specs.Terms.{nth, Term, letter, sign, Terms, none1, and1, Fits}
+use Rattle.rewriting.specs.Terms.{nth, Term, sign, Terms, none1, and1, Fits}
 use Rattle.rewriting.specs.Rules.{Eq}
 
 -- the precedence: the higher a sign's rank, the greater

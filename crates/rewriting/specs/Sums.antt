@@ -1,6 +1,5 @@
 -- A worked example: sums of numbers that are written with zero and next.
 use mathlib.Core.List.{List, [], _∷_}
-use Prim.Native.Nat.{ℕ}
 use Rattle.rewriting.specs.Terms.{Term, letter, sign, none1, and1}
 use Rattle.rewriting.specs.Rules.{Eq, Step}
 use Rattle.rewriting.specs.Order.{rank, All-down}
