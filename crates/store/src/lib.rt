@@ -9,6 +9,7 @@ mod view;
 
 pub use types::Full;
 pub use types::Node;
+pub use types::Order;
 pub use types::Place;
 pub use types::Roots;
 pub use types::Store;

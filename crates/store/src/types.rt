@@ -29,6 +29,13 @@ pub enum Node {
     Sign(u32, usize),
 }
 
+// Which of the roots that become parts is the first part: the lowest or the uppermost.
+#[derive(Clone, Copy)]
+pub enum Order {
+    Up,
+    Down,
+}
+
 // What was wanting: a slot for a term, or a cell for a root.
 #[derive(Clone, Copy)]
 pub enum Full {
