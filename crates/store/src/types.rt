@@ -43,6 +43,13 @@ pub enum Full {
     NoRoot,
 }
 
+// What was wanting to write a row: a word for it, or a cell for a root.
+#[derive(Clone, Copy)]
+pub enum Short {
+    NoWord,
+    NoCell,
+}
+
 // What a slot is found by: its head and the numbers of its parts' slots.
 #[derive(Clone, Copy)]
 pub struct Key {
