@@ -183,8 +183,11 @@ pub different-most : (ts : List Term) (g : ℕ → Term) (n : ℕ) → Apart g n
 different-most ts g n d p = pigeon n g (once (all-subterms ts)) (λ i l. once-mem (g i) _ (part-of-mem (p i l))) d
 
 different-reached : (ts : List Term) → (g : ℕ → Term) × Apart g (different ts) × ((i : ℕ) → i < different ts → Part-of (g i) ts)
-different-reached ts = let xs = once (all-subterms ts) in
-    (λ i. getD xs i (letter 0), once-apart (all-subterms ts), λ i l. mem-part-of _ ts (mem-once _ (all-subterms ts) (mem-at xs (letter 0) i l)))
+different-reached ts = let xs = once (all-subterms ts) in (
+  λ i. getD xs i (letter 0),
+  once-apart (all-subterms ts),
+  λ i l. mem-part-of _ ts (mem-once _ (all-subterms ts) (mem-at xs (letter 0) i l)),
+)
 
 -- terms whose parts are all parts of others have no more different parts than those
 pub different-mono : (ts us : List Term) → ((v : Term) → Part-of v ts → Part-of v us) → different ts ≤ different us

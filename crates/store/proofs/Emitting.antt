@@ -20,7 +20,8 @@ use Rattle.store.specs.Slots.{parts-by}
 use Rattle.store.specs.Roots.{Has-roots, root-at}
 use Rattle.store.specs.Stacks.{root-in, Stacked-on, Cut-to}
 use Rattle.store.specs.Stores.{term-in, part-in, parts-in, held, terms-down, Inside}
-use Rattle.store.specs.Transfers.{inner, tag-word, number-word, Parts-pushed, Symbol-written, Symbol-or-short, Roots-below, Written-or-short}
+use Rattle.store.specs.Transfers.{inner, tag-word, number-word, Parts-pushed, Symbol-written, Symbol-or-short, Roots-below}
+use Rattle.store.specs.Transfers.{Written-or-short}
 use Rattle.store.proofs.Cases.{le-or-lt, last-or-below}
 use Rattle.store.proofs.Forests.{down-same, down-count}
 
@@ -36,7 +37,8 @@ pushed-none a q i k n f e = record {
 }
 
 pub pushed-more : (a : Store) (q : Roots) (i k n : ℕ) (r : Roots) (p : ℕ) (s : Roots) → Parts-pushed a q i (k + 1) n r →
-    p ≡ part-in a i k → p < a .count → Stacked-on r (r .top) p s → Has-roots (s .cells .now) (s .top) → (m : ℕ) → m ≡ suc n → Parts-pushed a q i k m s
+    p ≡ part-in a i k → p < a .count → Stacked-on r (r .top) p s → Has-roots (s .cells .now) (s .top) → (m : ℕ) → m ≡ suc n →
+    Parts-pushed a q i k m s
 pushed-more a q i k n r p s h e l x f m z =
     let same : (j : ℕ) → j < r .top → root-in s j ≡ root-in r j = λ j y. x .rest j (λ w. omega arith) in
     let at : root-in s (q .top + n) ≡ part-in a i k = ap (λ (j : ℕ). root-in s j) (sym (h .top)) ∙ x .is ∙ e in
@@ -51,7 +53,8 @@ pushed-more a q i k n r p s h e l x f m z =
       rest = λ j y. same j (omega (arith, h .top)) ∙ h .rest j y;
       is = ap (λ (o : ℕ). terms-down a s (q .top) o) z
           ∙ ap (λ (o : ℕ). and1 (term-in a o) (terms-down a s (q .top) n)) at
-          ∙ ap (and1 (term-in a (part-in a i k))) (down-same a a r s (q .top) n (λ j y. ap (λ (o : ℕ). term-in a o) (same j (omega (arith, h .top)))) ∙ h .is)
+          ∙ ap (and1 (term-in a (part-in a i k))) (down-same a a r s (q .top) n
+          (λ j y. ap (λ (o : ℕ). term-in a o) (same j (omega (arith, h .top)))) ∙ h .is)
           ∙ sym (ap (parts-by (λ j. term-in a j) (λ o. part-in a i o) k) z);
     }
 
@@ -65,7 +68,8 @@ size-inner (letter x) = refl
 size-inner (sign f ts) = refl
 
 -- the roots of the upper part and of the lower
-down-join : (a : Store) (r : Roots) (from1 m n : ℕ) → terms-down a r from1 (m + n) ≡ glue (terms-down a r (from1 + m) n) (terms-down a r from1 m)
+down-join : (a : Store) (r : Roots) (from1 m n : ℕ) →
+    terms-down a r from1 (m + n) ≡ glue (terms-down a r (from1 + m) n) (terms-down a r from1 m)
 down-join a r from1 m zero = let z : m + 0 ≡ m = omega arith in ap (λ (o : ℕ). terms-down a r from1 o) z
 down-join a r from1 m (suc n) =
     let z : m + suc n ≡ suc (m + n) = omega arith in let y : from1 + (m + n) ≡ from1 + m + n = omega arith in
@@ -94,7 +98,8 @@ pub record Emitted (a : Store) (base : ℕ) (q : Roots) (t : Term) (vs : List �
   pub is : take at ws ++ rows (terms-down a r base (r .top - base)) ≡ row t
   pub tail : (j : ℕ) → at ≤ j → getD ws j 0 ≡ getD vs j 0
 
-pub emitted-size : (a : Store) (base : ℕ) (q : Roots) (t : Term) (vs : List ℕ) (at : ℕ) (r : Roots) (ws : List ℕ) → Emitted a base q t vs at r ws →
+pub emitted-size : (a : Store) (base : ℕ) (q : Roots) (t : Term) (vs : List ℕ) (at : ℕ) (r : Roots) (ws : List ℕ) →
+    Emitted a base q t vs at r ws →
     at + 2 * sizes (terms-down a r base (r .top - base)) ≡ 2 * size t
 emitted-size a base q t vs at r ws e =
     let h = ap length (e .is) in
@@ -125,7 +130,9 @@ emitted-none a q p s ws i l x f = record {
 module _ (a : Store) (base : ℕ) (q : Roots) (t : Term) (vs : List ℕ) (at : ℕ) (r : Roots) (ws : List ℕ) (e : Emitted a base q t vs at r ws)
     (more : base < r .top) where
   pub pending : terms-down a r base (r .top - base) ≡ and1 (held a r (r .top - 1)) (terms-down a r base (r .top - 1 - base))
-  pending = let z : r .top - base ≡ suc (r .top - 1 - base) = omega arith in let y : base + (r .top - 1 - base) ≡ r .top - 1 = omega arith in
+  pending =
+      let z : r .top - base ≡ suc (r .top - 1 - base) = omega arith in
+      let y : base + (r .top - 1 - base) ≡ r .top - 1 = omega arith in
       ap (λ (o : ℕ). terms-down a r base o) z ∙ ap (λ (o : ℕ). and1 (held a r o) (terms-down a r base (r .top - 1 - base))) y
 
   pub room-left : at + 2 ≤ 2 * size t
@@ -159,7 +166,8 @@ module _ (a : Store) (base : ℕ) (q : Roots) (t : Term) (vs : List ℕ) (at : �
 
     tail-next : (j : ℕ) → at + 2 ≤ j → getD xs j 0 ≡ getD vs j 0
     tail-next j l = ap (λ (ys : List ℕ). getD ys j 0) put
-        ∙ (let ne1 : j ≢ at = (λ z. omega arith) in let ne2 : j ≢ at + 1 = (λ z. omega arith) in rw getD-set-other (rw getD-set-other (e .tail j (omega arith))))
+        ∙ (let ne1 : j ≢ at = (λ z. omega arith) in let ne2 : j ≢ at + 1 = (λ z. omega arith) in
+        rw getD-set-other (rw getD-set-other (e .tail j (omega arith))))
 
     pub emitted-more : Emitted a base q t vs (at + 2) s xs
     emitted-more =
@@ -182,9 +190,17 @@ module _ (a : Store) (base : ℕ) (q : Roots) (t : Term) (vs : List ℕ) (at : �
   cells-enough =
       let u = held a r (r .top - 1) in
       let d = down-count a r base (r .top - 1 - base) in
-      omega (arith, emitted-size a base q t vs at r ws e, ap sizes pending, size-inner u, count-sizes (inner u), count-sizes (terms-down a r base (r .top - 1 - base)))
+      omega (
+        arith,
+        emitted-size a base q t vs at r ws e,
+        ap sizes pending,
+        size-inner u,
+        count-sizes (inner u),
+        count-sizes (terms-down a r base (r .top - 1 - base)),
+      )
 
-pub emitted-all : (a : Store) (base : ℕ) (q : Roots) (t : Term) (vs : List ℕ) (at : ℕ) (r : Roots) (ws : List ℕ) → Emitted a base q t vs at r ws →
+pub emitted-all : (a : Store) (base : ℕ) (q : Roots) (t : Term) (vs : List ℕ) (at : ℕ) (r : Roots) (ws : List ℕ) →
+    Emitted a base q t vs at r ws →
     r .top ≤ base → (at ≡ 2 * size t) × (take at ws ≡ row t)
 emitted-all a base q t vs at r ws e l =
     let z : r .top - base ≡ 0 = omega arith in
@@ -198,7 +214,8 @@ count-parts : (d : ℕ → Term) (p : ℕ → ℕ) (k n : ℕ) → count (parts-
 count-parts d p k zero = refl
 count-parts d p k (suc n) = omega (arith, count-parts d p (k + 1) n)
 
-module _ (a : Store) (q : Roots) (p f n : ℕ) (u : Roots) (e : held a q (q .top - 1) ≡ sign f (parts-in a p n)) (cut : Cut-to q (q .top - 1) u)
+module _ (a : Store) (q : Roots) (p f n : ℕ) (u : Roots) (e : held a q (q .top - 1) ≡ sign f (parts-in a p n))
+    (cut : Cut-to q (q .top - 1) u)
     (i : Inside a q) where
   pub sign-count : count (inner (held a q (q .top - 1))) ≡ n
   sign-count = ap (λ (t : Term). count (inner t)) e ∙ count-parts (λ j. term-in a j) (λ m. part-in a p m) 0 n
@@ -226,12 +243,14 @@ module _ (a : Store) (q : Roots) (p f n : ℕ) (u : Roots) (e : held a q (q .top
               (le-or-lt (u .top) j);
         };
         top = omega (arith, h .top, cut .top, sign-count);
-        is = ap (λ (m : ℕ). terms-down a r (q .top - 1) m) sign-count ∙ ap (λ (m : ℕ). terms-down a r m n) (sym (cut .top)) ∙ h .is ∙ sym (ap inner e);
+        is = ap (λ (m : ℕ). terms-down a r (q .top - 1) m) sign-count ∙ ap (λ (m : ℕ). terms-down a r m n) (sym (cut .top)) ∙ h .is
+            ∙ sym (ap inner e);
       }
 
 -- what is wanting when it stops
 pub emitted-short : (a : Store) (p : Roots) (q : Roots) (t : Term) (vs : List ℕ) (at : ℕ) (r : Roots) (ws : List ℕ) →
-    Emitted a (p .top) q t vs at r ws → p .top < r .top → length (q .cells .now) ≡ length (p .cells .now) → (s : Roots) (xs : List ℕ) (x : Short) →
+    Emitted a (p .top) q t vs at r ws → p .top < r .top → length (q .cells .now) ≡ length (p .cells .now) →
+    (s : Roots) (xs : List ℕ) (x : Short) →
     Symbol-or-short a r ws at s xs (Err x) → Written-or-short p t vs xs (Err x)
 emitted-short a p q t vs at r ws e l z s xs NoWord h = omega (arith, room-left a (p .top) q t vs at r ws e l, e .long)
 emitted-short a p q t vs at r ws e l z s xs NoCell h = λ f. h (omega (arith, cells-enough a (p .top) q t vs at r ws e l, e .below .long))

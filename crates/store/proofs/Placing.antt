@@ -25,7 +25,8 @@ use Rattle.store.specs.Slots.{tag-of, arity-of, kind-of, flag-of, note-at, par
 use Rattle.store.specs.Chains.{Chains, Holds, Pushed}
 use Rattle.store.specs.Roots.{Has-roots}
 use Rattle.store.specs.Stacks.{root-in, Stacked-on, in-order, Gathered}
-use Rattle.store.specs.Stores.{Sound, term-in, flag-in, note-in, Grown, Note-kept, Origin, new, old, Carried, held, parts-held, Inside, Roots-kept, terms-down}
+use Rattle.store.specs.Stores.{Sound, term-in, flag-in, note-in, Grown, Note-kept, Origin, new, old, Carried, held, parts-held, Inside}
+use Rattle.store.specs.Stores.{Roots-kept, terms-down}
 use Rattle.store.specs.Making.{Interned, root-term, Placed, Stacked, Stacked-or-full, Made}
 use Rattle.store.proofs.Cases.{le-or-lt, below-next}
 use Rattle.store.proofs.Decoding.{added-is, stays, shared-added, shape-added, node-same}
@@ -145,18 +146,21 @@ order-below : (o : Order) (from1 n k : ℕ) → k < n → in-order o from1 n k <
 order-below Up from1 n k l = omega arith
 order-below Down from1 n k l = omega arith
 
-pub gathered-fits : (b : Store) (head from1 : ℕ) (r : Roots) (o : Order) (key : Key) → Gathered head r o from1 key → tag-of (kind-of head) ≤ 5 →
+pub gathered-fits : (b : Store) (head from1 : ℕ) (r : Roots) (o : Order) (key : Key) → Gathered head r o from1 key →
+    tag-of (kind-of head) ≤ 5 →
     from1 + arity-of (kind-of head) ≤ r .top → Inside b r → Fits-in key (b .count)
 gathered-fits b head from1 r o key g t l i =
     let e : tag-of (kind-of (key .head)) ≡ tag-of (kind-of head) = ap tag-of (ap kind-of (g .same-head)) in
     record {
       tags = omega arith;
       below = λ k x. let m : k < arity-of (kind-of head) = omega arith in let z = g .parts k m in
-          let y = i .low (in-order o from1 (arity-of (kind-of head)) k) (omega (arith, order-below o from1 (arity-of (kind-of head)) k m)) in
+          let y = i .low (in-order o from1 (arity-of (kind-of head)) k)
+          (omega (arith, order-below o from1 (arity-of (kind-of head)) k m)) in
           omega arith;
     }
 
-pub gathered-term : (a b : Store) (head from1 : ℕ) (q r : Roots) (o : Order) (key : Key) → Gathered head r o from1 key → tag-of (kind-of head) ≤ 5 →
+pub gathered-term : (a b : Store) (head from1 : ℕ) (q r : Roots) (o : Order) (key : Key) → Gathered head r o from1 key →
+    tag-of (kind-of head) ≤ 5 →
     from1 + arity-of (kind-of head) ≤ q .top → Roots-kept a q b r → key-term (b .words .now) key ≡ root-term a head q o from1
 gathered-term a b head from1 q r o key g t l k = node-same (λ j. term-in b j) (λ j. term-in a j) (kind-of (key .head)) (kind-of head)
     (λ m. getD (key .parts) m 0) (λ m. root-in q (in-order o from1 (arity-of (kind-of head)) m))

@@ -15,7 +15,7 @@ use Rattle.rewriting.specs.Different.{different, Part-of, of-first, of-later, l
 use Rattle.rewriting.proofs.Different.{part-trans, part-of-listed, part-in-listed, different-mono}
 use Rattle.books.specs.Rows.{row, rows}
 use Rattle.books.proofs.Elements.{nth-below, nth-is}
-use Rattle.books.proofs.Glueing.{count-sizes, rows-length}
+use Rattle.books.proofs.Glueing.{count-sizes, row-length}
 use Rattle.store.specs.declared.types.Store.{Store}
 use Rattle.store.specs.declared.types.Roots.{Roots}
 use Rattle.store.specs.declared.types.Full.{Full}
@@ -27,7 +27,8 @@ use Rattle.store.specs.Making.{Made}
 use Rattle.store.specs.Transfers.{Row-of, Few-parts, takes, symbol-term, Readable, Read}
 use Rattle.store.proofs.Cases.{le-or-lt}
 use Rattle.store.proofs.Placing.{carried-then, carried-grown, grown-same}
-use Rattle.store.proofs.Forests.{after, after-rows, after-over, after-sizes, after-parts, down-same, down-count, down-one, down-split, down-part}
+use Rattle.store.proofs.Forests.{after, after-rows, after-over, after-sizes, after-parts, down-same, down-count, down-one, down-split}
+use Rattle.store.proofs.Forests.{down-part}
 
 -- the terms of t from symbol k on
 abbrev forest : ℕ → Term → Terms
@@ -55,14 +56,13 @@ pub record Ready (ps : List ℕ) (base : ℕ) (b : Store) (r : Roots) (tag num :
   pub others : terms-down b r base (r .top - base - takes ps tag num) ≡ rest
 
 -- the words of a row
-row-length : (t : Term) → length (row t) ≡ 2 * size t
-row-length t = let e = rows-length (and1 t none1) in let h : length (row t ++ []) ≡ length (row t) = ap length (append-nil (row t)) in omega arith
-
-pub symbols : (ps ws : List ℕ) (t : Term) → Row-of ps ws t → length ws ≡ 2 * size t
-symbols ps ws t w = ap length (sym (w .written)) ∙ row-length t
+pub symbols : {ps ws : List ℕ} {t : Term} → Row-of ps ws t → length ws ≡ 2 * size t
+symbols {t = t} w = ap length (sym (w .written)) ∙ row-length t
 
 word-at : (ps ws : List ℕ) (t : Term) (k i : ℕ) → Row-of ps ws t → getD (rows (forest k t)) i 0 ≡ getD ws (2 * k + i) 0
-word-at ps ws t k i w = ap (λ (xs : List ℕ). getD xs i 0) (after-rows k (and1 t none1) ∙ ap (drop (2 * k)) (append-nil (row t) ∙ w .written)) ∙ getD-drop (2 * k) ws i 0
+word-at ps ws t k i w =
+    ap (λ (xs : List ℕ). getD xs i 0) (after-rows k (and1 t none1) ∙ ap (drop (2 * k)) (append-nil (row t) ∙ w .written))
+    ∙ getD-drop (2 * k) ws i 0
 
 module _ (ps : List ℕ) (few : Few-parts ps) (base : ℕ) (b : Store) (r : Roots) (above : base ≤ r .top) where
   ready-letter : (x : ℕ) (us : Terms) → terms-down b r base (r .top - base) ≡ us → Ready ps base b r 0 x (and1 (letter x) us)
@@ -90,7 +90,9 @@ module _ (ps : List ℕ) (few : Few-parts ps) (base : ℕ) (b : Store) (r : Root
         split = refl;
         readable = (low, four, omega (arith, s .0));
         enough = omega (arith, s .0);
-        makes = ap (λ (m : ℕ). sign f (terms-down b r m (getD ps f 0))) z ∙ ap (λ (m : ℕ). sign f (terms-down b r (base + (r .top - base - count vs)) m)) n ∙ ap (sign f) (s .1);
+        makes = ap (λ (m : ℕ). sign f (terms-down b r m (getD ps f 0))) z
+            ∙ ap (λ (m : ℕ). sign f (terms-down b r (base + (r .top - base - count vs)) m)) n
+            ∙ ap (sign f) (s .1);
         others = ap (λ (m : ℕ). terms-down b r base (r .top - base - m)) n ∙ s .2;
       }
 
@@ -98,18 +100,35 @@ module _ (ps : List ℕ) (few : Few-parts ps) (base : ℕ) (b : Store) (r : Root
       terms-down b r base (r .top - base) ≡ after 1 fs → Ready ps base b r tag num fs
   ready-by none1 tag num s o d e h = absurd (omega arith)
   ready-by (and1 (letter x) us) tag num s o d e h =
-      subst (λ (w : ℕ). Ready ps base b r w num (and1 (letter x) us)) d (subst (λ (w : ℕ). Ready ps base b r 0 w (and1 (letter x) us)) e (ready-letter x us h))
+      subst (λ (w : ℕ). Ready ps base b r w num (and1 (letter x) us)) d
+      (subst (λ (w : ℕ). Ready ps base b r 0 w (and1 (letter x) us)) e (ready-letter x us h))
   ready-by (and1 (sign f vs) us) tag num s o d e h =
       subst (λ (w : ℕ). Ready ps base b r w num (and1 (sign f vs) us)) d
       (subst (λ (w : ℕ). Ready ps base b r 1 w (and1 (sign f vs) us)) e (ready-sign f vs us (o .0 .0) h))
 
-pub ready : (ps ws : List ℕ) (a : Store) (q : Roots) (t : Term) (k : ℕ) (b : Store) (r : Roots) → Few-parts ps → Row-of ps ws t → k < size t →
-    So-far a q t (suc k) b r → Ready ps (q .top) b r (getD ws (2 * k) 0) (getD ws (2 * k + 1) 0) (after k (and1 t none1))
-ready ps ws a q t k b r few w l s =
+-- symbol k is next
+pub record Turn (ps ws : List ℕ) (a : Store) (q : Roots) (t : Term) (k : ℕ) (b : Store) (r : Roots) : Type 0 where
+  pub low : k < size t
+  pub so-far : So-far a q t (suc k) b r
+  pub ready : Ready ps (q .top) b r (getD ws (2 * k) 0) (getD ws (2 * k + 1) 0) (after k (and1 t none1))
+
+turn-at : (ps ws : List ℕ) (a : Store) (q : Roots) (t : Term) (k : ℕ) (b : Store) (r : Roots) → Few-parts ps → Row-of ps ws t → k < size t →
+    So-far a q t (suc k) b r → Turn ps ws a q t k b r
+turn-at ps ws a q t k b r few w l s =
     let z : 2 * k + 0 ≡ 2 * k = omega arith in
-    ready-by ps few (q .top) b r (s .above) (forest k t) (getD ws (2 * k) 0) (getD ws (2 * k + 1) 0)
-    (omega (arith, after-sizes k (and1 t none1) (omega arith))) (after-over Any-letter ps k (and1 t none1) (w .fits, tt))
-    (word-at ps ws t k 0 w ∙ ap (λ (i : ℕ). getD ws i 0) z) (word-at ps ws t k 1 w) (s .is)
+    record {
+      low = l;
+      so-far = s;
+      ready = ready-by ps few (q .top) b r (s .above) (forest k t) (getD ws (2 * k) 0) (getD ws (2 * k + 1) 0)
+          (omega (arith, after-sizes k (and1 t none1) (omega arith))) (after-over Any-letter ps k (and1 t none1) (w .fits, tt))
+          (word-at ps ws t k 0 w ∙ ap (λ (i : ℕ). getD ws i 0) z) (word-at ps ws t k 1 w) (s .is);
+    }
+
+pub turn : (ps ws : List ℕ) (a : Store) (q : Roots) (t : Term) (n : ℕ) (b : Store) (r : Roots) → Few-parts ps → Row-of ps ws t →
+    0 < n → 2 * n ≤ length ws → So-far a q t n b r → Turn ps ws a q t (n - 1) b r
+turn ps ws a q t n b r few w p l s =
+    let e : n ≡ suc (n - 1) = omega arith in
+    turn-at ps ws a q t (n - 1) b r few w (omega (arith, symbols w)) (subst (λ (i : ℕ). So-far a q t i b r) e s)
 
 -- before the first symbol that is read
 none-left : (ts : Terms) → sizes ts ≡ 0 → ts ≡ none1
@@ -117,8 +136,8 @@ none-left none1 e = refl
 none-left (and1 (letter x) ts) e = absurd (omega arith)
 none-left (and1 (sign f us) ts) e = absurd (omega arith)
 
-pub so-far-none : (ps ws : List ℕ) (a : Store) (q : Roots) (t : Term) (k : ℕ) → Sound a → Inside a q → k ≡ size t → So-far a q t k a q
-so-far-none ps ws a q t k s i e = record {
+pub so-far-none : (a : Store) (q : Roots) (t : Term) (k : ℕ) → Sound a → Inside a q → k ≡ size t → So-far a q t k a q
+so-far-none a q t k s i e = record {
   sound = s;
   room = refl;
   carried = carried-grown a a (grown-same a);
@@ -127,7 +146,8 @@ so-far-none ps ws a q t k s i e = record {
   above = omega arith;
   kept = λ j l. refl;
   is = let z : q .top - q .top ≡ 0 = omega arith in
-      ap (λ (m : ℕ). terms-down a q (q .top) m) z ∙ sym (none-left (forest k t) (omega (arith, after-sizes k (and1 t none1) (omega arith))));
+      ap (λ (m : ℕ). terms-down a q (q .top) m) z
+      ∙ sym (none-left (forest k t) (omega (arith, after-sizes k (and1 t none1) (omega arith))));
 }
 
 -- one symbol more
@@ -174,7 +194,8 @@ module _ (ps : List ℕ) (a : Store) (q : Roots) (t : Term) (k : ℕ) (b : Store
       ⊎-elim
       (λ z. let e : q .top + (j - q .top) ≡ j = omega arith in
       of-first (part-trans (h .2) (subst (λ (i : ℕ). Part (held b r i) t) e
-      (down-part b r (q .top) (r .top - q .top) t (after (suc k) (and1 t none1)) (s .is) (after-parts (suc k) t) (j - q .top) (omega arith)))))
+      (down-part b r (q .top) (r .top - q .top) t (after (suc k) (and1 t none1)) (s .is) (after-parts (suc k) t) (j - q .top)
+      (omega arith)))))
       (λ z. of-later (part-of-listed (λ i. held a q i) (q .top) j v z (subst (λ (x : Term). Part v x) (s .kept j z) (h .2))))
       (le-or-lt (q .top) j)
 
@@ -185,7 +206,8 @@ module _ (ps : List ℕ) (a : Store) (q : Roots) (t : Term) (k : ℕ) (b : Store
       omega (arith, count-sizes (after k (and1 t none1)), after-sizes k (and1 t none1) (omega arith), h .enough, s .above)
 
   pub read-stops : (f : Full) (w : Roots) →
-      Made b r (r .top - takes ps tag num) (symbol-term b r (takes ps tag num) tag num) d u (Err f) → Cut-to u (q .top) w → Read a q t d w (Err f)
+      Made b r (r .top - takes ps tag num) (symbol-term b r (takes ps tag num) tag num) d u (Err f) → Cut-to u (q .top) w →
+      Read a q t d w (Err f)
   read-stops NoSlot w m c = record {
     sound = m .sound;
     room = m .room ∙ s .room;

@@ -43,8 +43,8 @@ abbrev pub Readable : List ℕ → Roots → ℕ → ℕ → Type 0
 Readable ps r zero x = Unit {0}
 Readable ps r (suc w) x = (x < length ps) × (getD ps x 0 ≤ 4) × (getD ps x 0 ≤ r .top)
 
--- one more root, which holds t; or the roots as they were, where the different parts of t and of what the roots hold fill the store, or where
--- there are not as many cells for roots as t has letters and signs
+-- one more root, which holds t; or the roots as they were, where the different parts of t and of what the roots hold fill the store,
+-- or where there are not as many cells for roots as t has letters and signs
 abbrev pub Read-or-full : Store → Roots → Term → Store → Roots → Result (Unit {0}) Full → Type 0
 Read-or-full a q t b r (Ok _) = Stacked a q (q .top) t b r
 Read-or-full a q t b r (Err NoSlot) = Roots-kept a q b r × (a .room ≤ different (t ∷ listed (λ k. held a q k) (q .top)))

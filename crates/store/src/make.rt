@@ -76,7 +76,8 @@ impl Store<'_> {
         requires { ⌜ Sound (now self) ⌝ ∗ ⌜ Fits-in (now key) (now self .count) ⌝ ∗ ⌜ flag-of (now key .head) ≡ false ⌝ }
         ensures sound { λ r. ⌜ Sound (now (self .exit)) ⌝ }
         ensures grown { λ r. ⌜ Grown (now (self .entry)) (now (self .exit)) ⌝ }
-        ensures place { λ r. ⌜ Interned (now (self .entry)) (now (self .exit)) (key-term (now (now (self .entry) .words)) (now (key .entry))) r ⌝ }
+        ensures place { λ r. ⌜ Interned (now (self .entry)) (now (self .exit))
+            (key-term (now (now (self .entry) .words)) (now (key .entry))) r ⌝ }
     {
         if let Some(i) = self.find(key) {
             return Some(Place(i));

@@ -101,7 +101,8 @@ impl Store<'_> {
         requires { ⌜ Sound (now self) ⌝ ∗ ⌜ Inside (now self) (now roots) ⌝ ∗ ⌜ p .0 < now self .count ⌝ }
         ensures top { λ _. ⌜ now (roots .exit) .top ≡ now (roots .entry) .top ⌝ }
         ensures below { λ _. ⌜ Roots-below (now (roots .entry) .top) (now (roots .entry)) (now (roots .exit)) ⌝ }
-        ensures written { λ x. ⌜ Written-or-short (now (roots .entry)) (term-in (now (self .entry)) (p .0)) (now (out .entry)) (now (out .exit)) x ⌝ }
+        ensures written { λ x. ⌜ Written-or-short (now (roots .entry)) (term-in (now (self .entry)) (p .0)) (now (out .entry))
+            (now (out .exit)) x ⌝ }
     {
         let base = roots.top;
         if let Err(_) = roots.push(p) {

@@ -6,4 +6,5 @@ use Rattle.store.specs.Stacks.{root-in, in-order}
 use Rattle.store.proofs.types.Roots.gather.Given as given
 
 abbrev pub Inv-loop-k : given.InvT-loop-k
-Inv-loop-k l = (length (l .parts) ≡ 4) × ((m : ℕ) → m < l .k → getD (l .parts) m 0 ≡ root-in (l .self) (in-order (l .order) (l .from) (l .n) m))
+Inv-loop-k l = (length (l .parts) ≡ 4) × ((m : ℕ) → m < l .k →
+    getD (l .parts) m 0 ≡ root-in (l .self) (in-order (l .order) (l .from) (l .n) m))

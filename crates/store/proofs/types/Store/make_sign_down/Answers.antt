@@ -12,4 +12,5 @@ pub returns : need.returns
 returns c =
     let h = c .sign-head in let a = c .args .self .now in let q = c .args .roots .now in
     made-is a q _ _ _ (c .make .last .self) (c .make .last .roots) (c .make .result)
-    (node-sign _ (kind-of (h .result)) _ (c .args .f) (c .args .n) (h .ensures .tag) (h .ensures .symbol) ∙ ap (sign (c .args .f)) (parts-down a q _ _ (c .args .n) (omega arith))) (c .make .ensures)
+    (node-sign _ (kind-of (h .result)) _ (c .args .f) (c .args .n) (h .ensures .tag) (h .ensures .symbol)
+    ∙ ap (sign (c .args .f)) (parts-down a q _ _ (c .args .n) (omega arith))) (c .make .ensures)

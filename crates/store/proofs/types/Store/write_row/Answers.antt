@@ -31,21 +31,27 @@ returns-in-Err-write-symbol c =
     let h = c .in-Err-write-symbol .ensures tt in let l : q .top < r .top = omega arith in
     record {
       top = c .truncate .ensures .top;
-      below = below-cut (q .top) q r u (c .truncate .last .self) (below-pushed q (c .args .p .0) s r x (i .below)) l (h .below) (c .truncate .ensures);
+      below = below-cut (q .top) q r u (c .truncate .last .self) (below-pushed q (c .args .p .0) s r x (i .below)) l (h .below)
+          (c .truncate .ensures);
       written = subst (λ (p : ℕ). Written-or-short q (term-in a p) vs xs (Err (c .in-Err-write-symbol .short))) (x .is)
-          (emitted-short a q s (held a s (q .top)) vs (c .loop-roots .at) r ws i l (x .long) u xs (c .in-Err-write-symbol .short) (h .symbol));
+          (emitted-short a q s (held a s (q .top)) vs (c .loop-roots .at) r ws i l (x .long) u xs (c .in-Err-write-symbol .short)
+          (h .symbol));
     }
 
 pub loop-roots-less : need.loop-roots-less
 loop-roots-less c =
-    let a = c .args .self .now in let q = c .args .roots .now in let s = c .push .last .self in let h = c .in-rest-write-symbol .ensures tt in
-    fewer a (q .top) s (held a s (q .top)) (c .args .out .now) (c .loop-roots .at) (c .loop-roots .roots) (c .loop-roots .out) (c .loop-roots .inv)
+    let a = c .args .self .now in let q = c .args .roots .now in let s = c .push .last .self in
+    let h = c .in-rest-write-symbol .ensures tt in
+    fewer a (q .top) s (held a s (q .top)) (c .args .out .now) (c .loop-roots .at) (c .loop-roots .roots) (c .loop-roots .out)
+    (c .loop-roots .inv)
     (omega arith) (c .write-symbol .last .roots) (c .write-symbol .last .out) (h .below) (h .symbol .0) (h .symbol .1) (h .symbol .2)
 
 pub loop-roots-again : need.loop-roots-again
 loop-roots-again c =
-    let a = c .args .self .now in let q = c .args .roots .now in let s = c .push .last .self in let h = c .in-rest-write-symbol .ensures tt in
-    emitted-more a (q .top) s (held a s (q .top)) (c .args .out .now) (c .loop-roots .at) (c .loop-roots .roots) (c .loop-roots .out) (c .loop-roots .inv)
+    let a = c .args .self .now in let q = c .args .roots .now in let s = c .push .last .self in
+    let h = c .in-rest-write-symbol .ensures tt in
+    emitted-more a (q .top) s (held a s (q .top)) (c .args .out .now) (c .loop-roots .at) (c .loop-roots .roots) (c .loop-roots .out)
+    (c .loop-roots .inv)
     (omega arith) (c .write-symbol .last .roots) (c .write-symbol .last .out) (h .below) (h .symbol .0) (h .symbol .1) (h .symbol .2)
 
 pub returns : need.returns
