@@ -31,7 +31,8 @@ bucket-same mask k j p q e h =
     ∙ ap (λ (x : ℕ). bitAnd (hash-of x q (arity-of x) / 4294967296) mask) e
 
 holds-bucket : (mask : ℕ) (ws : List ℕ) (j : ℕ) (key : Key) → Holds ws j key → bucket-at mask ws j ≡ key-bucket mask key
-holds-bucket mask ws j key o = bucket-same mask (kind-at ws j) (kind-of (key .head)) (λ k. part-at ws j k) (λ k. getD (key .parts) k 0) (o .kind)
+holds-bucket mask ws j key o = bucket-same mask (kind-at ws j) (kind-of (key .head)) (λ k. part-at ws j k) (λ k. getD (key .parts) k 0)
+    (o .kind)
     (λ m l. let e : tag-of (kind-at ws j) ≡ tag-of (kind-of (key .head)) = ap tag-of (o .kind) in o .parts m (omega arith))
 
 -- a search along a chain, from its last slot on

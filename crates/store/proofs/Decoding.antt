@@ -51,6 +51,13 @@ term-is ws c i w l =
     (λ m a. let p : P i m < i = w .below i m l a in
     layers K K P P c (w .below) (λ i l. refl) (λ i k l a. refl) i (suc (P i m)) (P i m) (omega arith) (omega arith) (omega arith))
 
+-- which is a key's term where kind and parts' terms are the key's
+pub slot-key : (vs ws : List ℕ) (i : ℕ) (key : Key) → kind-at ws i ≡ kind-of (key .head) →
+    ((m : ℕ) → m < arity-at ws i → term-of ws (part-at ws i m) ≡ term-of vs (getD (key .parts) m 0)) →
+    node (λ j. term-of ws j) (kind-at ws i) (λ k. part-at ws i k) ≡ key-term vs key
+slot-key vs ws i key e h = node-same (λ j. term-of ws j) (λ j. term-of vs j) (kind-at ws i) (kind-of (key .head))
+    (λ k. part-at ws i k) (λ k. getD (key .parts) k 0) e h
+
 -- slots with the same kinds and parts
 pub alike : (vs ws : List ℕ) (c : ℕ) → ((j k : ℕ) → j < c → k < 5 → cell ws j k ≡ cell vs j k) → Alike vs ws c
 alike vs ws c s = record { kinds = λ j l. ap kind-of (s j 0 l (omega arith)); parts = λ j k l m. s j (k + 1) l (omega arith) }
@@ -109,8 +116,7 @@ module _ (vs ws : List ℕ) (n : ℕ) (key : Key) (w : Shape vs n) (r : Added vs
 
   pub added-is : term-of ws n ≡ key-term vs key
   added-is = term-is ws (n + 1) n shape-added (omega arith)
-      ∙ node-same (λ j. term-of ws j) (λ j. term-of vs j) (kind-at ws n) (kind-of (key .head)) (λ k. part-at ws n k) (λ k. getD (key .parts) k 0) kind
-      (λ m a. let t = tag in let u = f .tags in
+      ∙ slot-key vs ws n key kind (λ m a. let t = tag in let u = f .tags in
       ap (λ (x : ℕ). term-of ws x) (r .parts m (omega arith)) ∙ stays (getD (key .parts) m 0) (f .below m (omega arith)))
 
   -- for a term that was not there

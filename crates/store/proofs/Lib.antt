@@ -10,3 +10,6 @@ pub mod Collecting
 pub mod Viewing
 pub mod Placing
 pub mod Keeping
+pub mod Forests
+pub mod Reading
+pub mod Emitting

@@ -26,7 +26,8 @@ too-start p vs = record {
   only = λ j h n. absurd (n h);
 }
 
-pub too-more : (p : ℕ → ℕ) (k q : ℕ) (us vs ws : List ℕ) → Marked-too p k us vs → q ≡ p k → Cell-put vs q 7 1 ws → Marked-too p (k + 1) us ws
+pub too-more : (p : ℕ → ℕ) (k q : ℕ) (us vs ws : List ℕ) → Marked-too p k us vs → q ≡ p k → Cell-put vs q 7 1 ws →
+    Marked-too p (k + 1) us ws
 too-more p k q us vs ws m e s =
     let here : Marked ws q = (λ z. let one : note-at ws q ≡ 1 = s .is in omega arith) in
     let elsewhere : (j : ℕ) → (j ≡ q → ⊥) → note-at ws j ≡ note-at vs j = λ j n. s .rest j 7 (omega arith) (λ a b. n a) in

@@ -10,11 +10,12 @@ use Rattle.rewriting.specs.Terms.{Term}
 use Rattle.store.specs.declared.types.Store.{Store}
 use Rattle.store.specs.declared.types.Roots.{Roots}
 use Rattle.store.specs.declared.types.Place.{Place}
+use Rattle.store.specs.declared.types.Order.{Order}
 use Rattle.store.specs.declared.types.Full.{Full}
 use Rattle.store.specs.declared.types.Full.the-variants.{NoSlot, NoRoot}
-use Rattle.store.specs.Slots.{kind-of, node}
+use Rattle.store.specs.Slots.{kind-of, arity-of, node}
 use Rattle.store.specs.Roots.{Has-roots}
-use Rattle.store.specs.Stacks.{root-in}
+use Rattle.store.specs.Stacks.{root-in, in-order}
 use Rattle.store.specs.Stores.{Sound, term-in, Carried, held, parts-held, Inside, Roots-kept}
 
 -- an opened store has no terms, and all the room that the words give
@@ -37,8 +38,8 @@ pub record Kept-only (a : Store) (q : Roots) (b : Store) (r : Roots) : Type 0 wh
   pub limit : b .limit ≤ b .count → b .limit ≡ b .room
 
 -- the term with a head and the roots from one on as parts
-abbrev pub root-term : Store → ℕ → Roots → ℕ → Term
-root-term a head r from1 = node (λ j. term-in a j) (kind-of head) (λ k. root-in r (from1 + k))
+abbrev pub root-term : Store → ℕ → Roots → Order → ℕ → Term
+root-term a head r o from1 = node (λ j. term-in a j) (kind-of head) (λ k. root-in r (in-order o from1 (arity-of (kind-of head)) k))
 
 -- the place of a term, or none if the roots' terms have as many different parts as there is room for
 abbrev pub Placed : Store → Roots → Store → Term → Option Place → Type 0
