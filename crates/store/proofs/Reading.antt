@@ -14,6 +14,7 @@ use Rattle.rewriting.specs.Rules.{Part}
 use Rattle.rewriting.specs.Different.{different, Part-of, of-first, of-later, listed}
 use Rattle.rewriting.proofs.Different.{part-trans, part-of-listed, part-in-listed, different-mono}
 use Rattle.books.specs.Rows.{row, rows}
+use Rattle.books.specs.Layouts.{Few-parts}
 use Rattle.books.proofs.Elements.{nth-below, nth-is}
 use Rattle.books.proofs.Glueing.{count-sizes, row-length}
 use Rattle.store.specs.declared.types.Store.{Store}
@@ -24,7 +25,7 @@ use Rattle.store.specs.Roots.{Has-roots, root-at}
 use Rattle.store.specs.Stacks.{Cut-to}
 use Rattle.store.specs.Stores.{Sound, Carried, term-in, held, parts-held, terms-down, Inside, Roots-kept}
 use Rattle.store.specs.Making.{Made}
-use Rattle.store.specs.Transfers.{Row-of, Few-parts, takes, symbol-term, Readable, Read}
+use Rattle.store.specs.Transfers.{Row-of, takes, symbol-term, Readable, Read}
 use Rattle.store.proofs.Cases.{le-or-lt}
 use Rattle.store.proofs.Placing.{carried-then, carried-grown, grown-same}
 use Rattle.store.proofs.Forests.{after, after-rows, after-over, after-sizes, after-parts, down-same, down-count, down-one, down-split}
