@@ -5,11 +5,12 @@ use Prim.Native.Nat.{ℕ, zero, suc, _+_, _*_, _≤_, _<_}
 use native.Mathlib.Omega.{arith}
 use lib.ListN.{length, drop}
 use lib.Seq.{drop-drop}
-use Rattle.rewriting.specs.Terms.{Term, letter, sign, Terms, none1, and1, count, size, sizes, Over, All-over}
+use Rattle.rewriting.specs.Terms.{Term, letter, sign, Terms, none1, and1, glue, size, sizes, Over, All-over}
+use Rattle.rewriting.proofs.Glueing.{size-some, sizes-glue}
 use Rattle.books.specs.Rows.{row, rows}
-use Rattle.books.specs.Reading.{Allowed, glue}
+use Rattle.books.specs.Reading.{Allowed}
 use Rattle.books.specs.declared.words.Letters.{Letters}
-use Rattle.books.proofs.Glueing.{rows-glue, over-glue, size-some, rows-length}
+use Rattle.books.proofs.Glueing.{rows-glue, over-glue, rows-length}
 use Rattle.books.proofs.Unique.{rows-once}
 
 -- the terms behind the first symbol
@@ -20,10 +21,6 @@ opened (sign f us) ts = glue us ts
 abbrev pub behind : Terms → Terms
 behind none1 = none1
 behind (and1 t ts) = opened t ts
-
-sizes-glue : (ts us : Terms) → sizes (glue ts us) ≡ sizes ts + sizes us
-sizes-glue none1 us = omega arith
-sizes-glue (and1 t ts) us = omega (arith, sizes-glue ts us)
 
 pub behind-sizes : (ts : Terms) → 0 < sizes ts → sizes (behind ts) + 1 ≡ sizes ts
 behind-sizes none1 h = absurd (omega arith)

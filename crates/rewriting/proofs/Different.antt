@@ -1,6 +1,6 @@
 -- The number of different parts is the greatest number of parts that differ, and at most the size.
 use mathlib.Core.Path.{_≡_, refl, sym, _∙_, ap, subst}
-use mathlib.Core.Logic.{_⊎_, inl, inr, ⊎-elim}
+use mathlib.Core.Logic.{_⊎_, ⊎-elim}
 use mathlib.Core.Bool.{Bool, true, false, _&&_, _||_, cond}
 use mathlib.Core.List.{List, [], _∷_, _++_}
 use Prim.Native.Nat.{ℕ, zero, suc, _+_, _<_, _≤_}
@@ -192,6 +192,18 @@ different-reached ts = let xs = once (all-subterms ts) in (
 -- terms whose parts are all parts of others have no more different parts than those
 pub different-mono : (ts us : List Term) → ((v : Term) → Part-of v ts → Part-of v us) → different ts ≤ different us
 different-mono ts us h = let r = different-reached ts in different-most us (r .0) (different ts) (r .1) (λ i l. h _ (r .2 i l))
+
+-- terms whose parts are all parts of some terms or of others have no more different parts than both together
+pub different-both : (ts us vs : List Term) → ((v : Term) → Part-of v vs → Part-of v ts ⊎ Part-of v us) →
+    different vs ≤ different ts + different us
+different-both ts us vs h =
+    let xs = once (all-subterms ts) in
+    let ys = once (all-subterms us) in
+    let r = different-reached vs in
+    let l : different vs ≤ length (xs ++ ys) = pigeon (different vs) (r .0) (xs ++ ys) (λ i k. ⊎-elim
+    (λ p. mem-left ys (once-mem (r .0 i) _ (part-of-mem p))) (λ p. mem-right xs (once-mem (r .0 i) _ (part-of-mem p)))
+    (h (r .0 i) (r .2 i k))) (r .1) in
+    rw (← length-append xs ys) l
 
 different-part : (v t : Term) → Part v t → different (v ∷ []) ≤ different (t ∷ [])
 different-part v t p = different-mono (v ∷ []) (t ∷ []) (λ u q. of-first (within u q))

@@ -3,6 +3,7 @@
 pub mod Choosing
 pub mod Replacing
 pub mod Letters
+pub mod Glueing
 pub mod Signature
 pub mod Cleaning
 pub mod Comparing
@@ -30,3 +31,9 @@ pub mod Verdicts
 -- the number of different parts
 pub mod Members
 pub mod Different
+-- the machine
+pub mod Framing
+pub mod Moving
+pub mod Costing
+pub mod Depth
+pub mod Asking

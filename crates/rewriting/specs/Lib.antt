@@ -8,4 +8,6 @@ pub mod Overlaps
 pub mod Books
 pub mod Ways
 pub mod Theorems
+pub mod Machine
+pub mod Machine-theorems
 pub mod Sums

@@ -112,9 +112,9 @@ mod tests {
         check_eq(layout.signs(), 3)?;
         check_eq(layout.equations(), 2)?;
         check_eq(layout.rules(), 2)?;
-        check_eq(layout.side(0), Some((9, 15)))?;
-        check_eq(layout.side(3), Some((25, 33)))?;
-        check_eq(layout.side(7), Some((49, 57)))
+        check_eq(layout.start(0), 9)?;
+        check_eq(layout.start(3), 25)?;
+        check_eq(layout.start(8), 57)
     }
 
     #[test]

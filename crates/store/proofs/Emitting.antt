@@ -8,10 +8,10 @@ use lib.ListN.{length, getD, set, take, length-set, length-append}
 use lib.Seq.{getD-set-other, length-take-le}
 use Rattle.std.proofs.shelf.Lists.{take-more-set, take-set}
 use Rattle.std.specs.declared.result.Result.the-variants.{Err}
-use Rattle.rewriting.specs.Terms.{Term, letter, sign, Terms, none1, and1, count, size, sizes}
+use Rattle.rewriting.specs.Terms.{Term, letter, sign, Terms, none1, and1, count, size, sizes, glue}
 use Rattle.books.specs.Rows.{row, rows}
-use Rattle.books.specs.Reading.{glue}
-use Rattle.books.proofs.Glueing.{rows-glue, rows-length, row-length, count-sizes, size-some}
+use Rattle.books.proofs.Glueing.{rows-glue, rows-length, row-length}
+use Rattle.rewriting.proofs.Glueing.{count-sizes, size-some}
 use Rattle.store.specs.declared.types.Store.{Store}
 use Rattle.store.specs.declared.types.Roots.{Roots}
 use Rattle.store.specs.declared.types.Short.{Short}

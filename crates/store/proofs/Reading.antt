@@ -16,7 +16,8 @@ use Rattle.rewriting.proofs.Different.{part-trans, part-of-listed, part-in-list
 use Rattle.books.specs.Rows.{row, rows}
 use Rattle.books.specs.Layouts.{Few-parts}
 use Rattle.books.proofs.Elements.{nth-below, nth-is}
-use Rattle.books.proofs.Glueing.{count-sizes, row-length}
+use Rattle.books.proofs.Glueing.{row-length}
+use Rattle.rewriting.proofs.Glueing.{count-sizes}
 use Rattle.store.specs.declared.types.Store.{Store}
 use Rattle.store.specs.declared.types.Roots.{Roots}
 use Rattle.store.specs.declared.types.Full.{Full}

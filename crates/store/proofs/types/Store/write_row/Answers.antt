@@ -5,7 +5,7 @@ use native.Mathlib.Omega.{arith}
 use lib.ListN.{length}
 use Rattle.std.specs.declared.result.Result.the-variants.{Err}
 use Rattle.rewriting.specs.Terms.{Term, size}
-use Rattle.books.proofs.Glueing.{size-some}
+use Rattle.rewriting.proofs.Glueing.{size-some}
 use Rattle.books.specs.Rows.{row}
 use Rattle.store.specs.declared.types.Roots.{Roots}
 use Rattle.store.specs.Stacks.{root-in}
