@@ -1,6 +1,6 @@
 // Rows into the store and out of it, symbol by symbol.
 ghost use mathlib.Core.Path.{_≡_};
-ghost use Prim.Native.Nat.{ℕ, _+_, _-_, _<_, _≤_};
+ghost use Prim.Native.Nat.{_+_, _-_, _<_, _≤_};
 ghost use lib.ListN.{length};
 ghost use Rattle.rewriting.specs.Terms.{Term};
 ghost use Rattle.books.specs.Layouts.{Few-parts};

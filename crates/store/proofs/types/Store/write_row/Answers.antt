@@ -1,10 +1,10 @@
 -- Each symbol that is written leaves the rest on the roots.
-use mathlib.Core.Path.{_≡_, _∙_, sym, ap, subst}
-use Prim.Native.Nat.{ℕ, _<_, _≤_}
+use mathlib.Core.Path.{_≡_, _∙_, ap, subst}
+use Prim.Native.Nat.{ℕ, _<_}
 use native.Mathlib.Omega.{arith}
 use lib.ListN.{length}
 use Rattle.std.specs.declared.result.Result.the-variants.{Err}
-use Rattle.rewriting.specs.Terms.{Term, size}
+use Rattle.rewriting.specs.Terms.{size}
 use Rattle.rewriting.proofs.Glueing.{size-some}
 use Rattle.books.specs.Rows.{row}
 use Rattle.store.specs.declared.types.Roots.{Roots}
