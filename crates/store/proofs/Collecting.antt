@@ -1,7 +1,7 @@
 -- Collecting: marked, with the buckets emptied, slid down, and the notes cleared.
 use mathlib.Core.Path.{_≡_, sym, _∙_, ap, subst}
 use mathlib.Core.List.{List}
-use Prim.Native.Nat.{ℕ, _+_, _-_, _<_, _≤_}
+use Prim.Native.Nat.{ℕ, _+_, _-_, _<_}
 use native.Mathlib.Omega.{arith}
 use lib.ListN.{length}
 use Rattle.rewriting.specs.Terms.{Term}
@@ -11,7 +11,7 @@ use Rattle.rewriting.proofs.Different.{different-most, part-of-listed}
 use Rattle.store.specs.Cells.{cell, Cleared}
 use Rattle.store.specs.Slots.{tag-of, kind-of, flag-of, kind-at, part-at, note-at, term-of, Shared}
 use Rattle.store.specs.Chains.{Chains}
-use Rattle.store.specs.Marks.{Marked, Closed, Roots-marked}
+use Rattle.store.specs.Marks.{Closed, Roots-marked}
 use Rattle.store.specs.Slides.{Moved, Slid, Collected}
 use Rattle.store.proofs.Decoding.{alike, term-alike, shared-alike}
 use Rattle.store.proofs.Chaining.{chains-kept}

@@ -5,7 +5,7 @@ use mathlib.Core.List.{List}
 use Prim.Native.Nat.{ℕ, zero, suc, _+_, _-_, _*_, _<_, _≤_}
 use native.Mathlib.Omega.{arith}
 use lib.ListN.{length, getD}
-use Rattle.rewriting.specs.Terms.{Term, letter, sign, Terms, none1, and1}
+use Rattle.rewriting.specs.Terms.{Term, sign, and1}
 use Rattle.store.specs.declared.types.Key.{Key}
 use Rattle.store.specs.Cells.{cell}
 use Rattle.store.specs.Slots.{symbol-of, tag-of, arity-of, kind-of, kind-at, arity-at, part-at, parts-by, node-by, node, term-by, term-of}

@@ -1,12 +1,12 @@
 -- Writing a row: the words so far, and the roots that hold the terms still to be written, the first uppermost.
-use mathlib.Core.Path.{_≡_, refl, sym, _∙_, ap, subst}
+use mathlib.Core.Path.{_≡_, refl, sym, _∙_, ap}
 use mathlib.Core.Logic.{_⊎_, _≢_, ⊎-elim}
 use mathlib.Core.List.{List, [], _∷_, _++_, append-assoc, append-nil}
 use Prim.Native.Nat.{ℕ, zero, suc, _+_, _-_, _*_, _<_, _≤_}
 use native.Mathlib.Omega.{arith}
 use lib.ListN.{length, getD, set, take, length-set, length-append}
 use lib.Seq.{getD-set-other, length-take-le}
-use Rattle.std.proofs.shelf.Lists.{take-more-set, take-set}
+use Rattle.std.proofs.shelf.Lists.{take-more-set}
 use Rattle.std.specs.declared.result.Result.the-variants.{Err}
 use Rattle.rewriting.specs.Terms.{Term, letter, sign, Terms, none1, and1, count, size, sizes, glue}
 use Rattle.books.specs.Rows.{row, rows}

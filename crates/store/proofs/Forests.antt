@@ -1,19 +1,16 @@
 -- The terms of a row from symbol k on, and the roots that hold them, the first uppermost.
 use mathlib.Core.Path.{_≡_, refl, sym, _∙_, ap, subst}
-use mathlib.Core.Logic.{_⊎_, inl, inr, ⊎-elim}
-use mathlib.Core.List.{List, [], _∷_, _++_, append-nil}
-use mathlib.Core.Option.{some}
+use mathlib.Core.Logic.{_⊎_, ⊎-elim}
+use mathlib.Core.List.{List}
 use Prim.Native.Nat.{ℕ, zero, suc, _+_, _-_, _*_, _<_, _≤_}
 use native.Mathlib.Omega.{arith}
-use lib.ListN.{length, getD, drop}
+use lib.ListN.{drop}
 use lib.Seq.{drop-drop}
-use Rattle.rewriting.specs.Terms.{nth, Term, letter, sign, Terms, none1, and1, count, size, sizes, Any-letter, Fits, All-over, glue}
+use Rattle.rewriting.specs.Terms.{Term, letter, sign, Terms, none1, and1, count, sizes, All-over, glue}
 use Rattle.rewriting.specs.Rules.{Part, itself, in-part, Parts, in-this, in-later}
 use Rattle.rewriting.proofs.Different.{part-trans}
 use Rattle.books.specs.Rows.{row, rows}
 use Rattle.books.proofs.Forests.{behind, behind-rows, behind-over, behind-sizes}
-use Rattle.books.proofs.Glueing.{rows-length}
-use Rattle.rewriting.proofs.Glueing.{count-sizes}
 use Rattle.store.specs.declared.types.Store.{Store}
 use Rattle.store.specs.declared.types.Roots.{Roots}
 use Rattle.store.specs.Stores.{held, terms-down}

@@ -1,12 +1,10 @@
 -- What a collection keeps of a store.
-use mathlib.Core.Path.{_≡_, refl}
-use mathlib.Core.List.{List}
-use Prim.Native.Nat.{ℕ, _+_, _*_, _<_, _≤_}
+use mathlib.Core.Path.{_≡_}
+use Prim.Native.Nat.{_<_, _≤_}
 use native.Mathlib.Omega.{arith}
 use lib.ListN.{length}
 use Rattle.store.specs.declared.types.Store.{Store}
 use Rattle.store.specs.declared.types.Roots.{Roots}
-use Rattle.store.specs.Slots.{note-at}
 use Rattle.store.specs.Chains.{Chains}
 use Rattle.store.specs.Roots.{root-at}
 use Rattle.store.specs.Slides.{Collected}

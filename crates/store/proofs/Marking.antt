@@ -2,15 +2,15 @@
 use mathlib.Core.Path.{_≡_, refl, sym, _∙_, ap, subst}
 use mathlib.Core.Logic.{_⊎_, ⊎-elim}
 use mathlib.Core.List.{List}
-use Prim.Native.Nat.{ℕ, zero, suc, _+_, _-_, _*_, _<_, _≤_}
+use Prim.Native.Nat.{ℕ, zero, suc, _+_, _-_, _<_, _≤_}
 use native.Mathlib.Omega.{arith}
 use native.Mathlib.Nat.{eq-or-lt-of-le}
 use lib.ListN.{length}
 use Rattle.rewriting.specs.Terms.{Term}
 use Rattle.rewriting.specs.Rules.{Part, itself, in-part, Parts, in-this, in-later}
 use Rattle.rewriting.proofs.Different.{part-trans}
-use Rattle.store.specs.Cells.{cell, Cell-put, Cleared}
-use Rattle.store.specs.Slots.{symbol-of, tag-of, arity-of, kind-of, kind-at, arity-at, part-at, note-at}
+use Rattle.store.specs.Cells.{Cell-put, Cleared}
+use Rattle.store.specs.Slots.{symbol-of, tag-of, kind-of, kind-at, arity-at, part-at, note-at}
 use Rattle.store.specs.Slots.{parts-by, node-by, node, term-of, Shape, Same-nodes}
 use Rattle.store.specs.Marks.{Marked, Reached, from-mark, by-part, Marked-too, All-marked, Roots-marked}
 use Rattle.store.proofs.Cases.{eq-or, last-or-below}

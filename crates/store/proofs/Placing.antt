@@ -1,7 +1,6 @@
 -- A store with one more slot; flags and notes carried on; roots kept; a root put in the place of others.
-use mathlib.Core.Path.{_≡_, refl, sym, _∙_, ap, subst}
+use mathlib.Core.Path.{_≡_, refl, _∙_, ap, subst}
 use mathlib.Core.Logic.{_⊎_, ⊎-elim}
-use mathlib.Core.Bool.{false}
 use mathlib.Core.List.{List}
 use Prim.Native.Nat.{ℕ, zero, suc, _+_, _-_, _*_, _<_, _≤_}
 use native.Mathlib.Omega.{arith}
@@ -9,7 +8,6 @@ use lib.ListN.{length, getD}
 use Rattle.std.specs.declared.option.Option.{Option}
 use Rattle.std.specs.declared.option.Option.the-variants.{Some, None}
 use Rattle.std.specs.declared.result.Result.{Result}
-use Rattle.std.specs.declared.result.Result.the-variants.{Ok, Err}
 use Rattle.rewriting.specs.Terms.{Term, and1}
 use Rattle.rewriting.specs.Different.{different}
 use Rattle.rewriting.proofs.Different.{listed-same}
@@ -25,9 +23,9 @@ use Rattle.store.specs.Slots.{tag-of, arity-of, kind-of, flag-of, note-at, par
 use Rattle.store.specs.Chains.{Chains, Holds, Pushed}
 use Rattle.store.specs.Roots.{Has-roots}
 use Rattle.store.specs.Stacks.{root-in, Stacked-on, in-order, Gathered}
-use Rattle.store.specs.Stores.{Sound, term-in, flag-in, note-in, Grown, Note-kept, Origin, new, old, Carried, held, parts-held, Inside}
+use Rattle.store.specs.Stores.{term-in, flag-in, note-in, Grown, Note-kept, new, old, Carried, held, parts-held, Inside}
 use Rattle.store.specs.Stores.{Roots-kept, terms-down}
-use Rattle.store.specs.Making.{Interned, root-term, Placed, Stacked, Stacked-or-full, Made}
+use Rattle.store.specs.Making.{Interned, root-term, Placed, Stacked, Made}
 use Rattle.store.proofs.Cases.{le-or-lt, below-next}
 use Rattle.store.proofs.Decoding.{added-is, stays, shared-added, shape-added, node-same}
 use Rattle.store.proofs.Telling.{unheld}

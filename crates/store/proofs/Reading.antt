@@ -1,19 +1,19 @@
 -- Reading a row from its end on: the roots above the first ones hold the terms from symbol k on.
 use mathlib.Core.Path.{_≡_, refl, sym, _∙_, ap, subst}
-use mathlib.Core.Logic.{_⊎_, inl, inr, ⊎-elim}
-use mathlib.Core.List.{List, [], _∷_, _++_, append-nil}
+use mathlib.Core.Logic.{_⊎_, ⊎-elim}
+use mathlib.Core.List.{List, _∷_, append-nil}
 use mathlib.Core.Option.{some}
-use Prim.Native.Nat.{ℕ, zero, suc, _+_, _-_, _*_, _<_, _≤_}
+use Prim.Native.Nat.{ℕ, suc, _+_, _-_, _*_, _<_, _≤_}
 use native.Mathlib.Omega.{arith}
 use lib.ListN.{length, getD, drop}
 use lib.Seq.{getD-drop}
-use Rattle.std.specs.declared.result.Result.{Result}
 use Rattle.std.specs.declared.result.Result.the-variants.{Ok, Err}
 use Rattle.rewriting.specs.Terms.{nth, Term, letter, sign, Terms, none1, and1, count, size, sizes, Any-letter, All-over}
 use Rattle.rewriting.specs.Rules.{Part}
-use Rattle.rewriting.specs.Different.{different, Part-of, of-first, of-later, listed}
+use Rattle.rewriting.specs.Different.{Part-of, of-first, of-later, listed}
 use Rattle.rewriting.proofs.Different.{part-trans, part-of-listed, part-in-listed, different-mono}
 use Rattle.books.specs.Rows.{row, rows}
+use Rattle.books.specs.Layouts.{Few-parts}
 use Rattle.books.proofs.Elements.{nth-below, nth-is}
 use Rattle.books.proofs.Glueing.{row-length}
 use Rattle.rewriting.proofs.Glueing.{count-sizes}
@@ -21,11 +21,11 @@ use Rattle.store.specs.declared.types.Store.{Store}
 use Rattle.store.specs.declared.types.Roots.{Roots}
 use Rattle.store.specs.declared.types.Full.{Full}
 use Rattle.store.specs.declared.types.Full.the-variants.{NoSlot, NoRoot}
-use Rattle.store.specs.Roots.{Has-roots, root-at}
+use Rattle.store.specs.Roots.{root-at}
 use Rattle.store.specs.Stacks.{Cut-to}
-use Rattle.store.specs.Stores.{Sound, Carried, term-in, held, parts-held, terms-down, Inside, Roots-kept}
+use Rattle.store.specs.Stores.{Sound, Carried, term-in, held, terms-down, Inside, Roots-kept}
 use Rattle.store.specs.Making.{Made}
-use Rattle.store.specs.Transfers.{Row-of, Few-parts, takes, symbol-term, Readable, Read}
+use Rattle.store.specs.Transfers.{Row-of, takes, symbol-term, Readable, Read}
 use Rattle.store.proofs.Cases.{le-or-lt}
 use Rattle.store.proofs.Placing.{carried-then, carried-grown, grown-same}
 use Rattle.store.proofs.Forests.{after, after-rows, after-over, after-sizes, after-parts, down-same, down-count, down-one, down-split}

@@ -6,7 +6,7 @@ use native.Mathlib.Omega.{arith}
 use lib.ListN.{length, getD}
 use Rattle.store.specs.declared.types.Key.{Key}
 use Rattle.store.specs.Cells.{cell, Cell-put}
-use Rattle.store.specs.Slots.{tag-of, arity-of, kind-of, kind-at, arity-at, part-at, note-at, term-of, Shared, Fits-in, key-term, Added}
+use Rattle.store.specs.Slots.{tag-of, kind-of, kind-at, arity-at, part-at, note-at, term-of, Shared, Fits-in, key-term, Added}
 use Rattle.store.specs.Chains.{Chains, Pushed}
 use Rattle.store.specs.Marks.{Marked, Closed}
 use Rattle.store.specs.Slides.{Translated, Moved, Came, Slid}

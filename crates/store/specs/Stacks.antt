@@ -7,6 +7,7 @@ use Rattle.std.specs.declared.result.Result.the-variants.{Ok, Err}
 use Rattle.store.specs.declared.types.Roots.{Roots}
 use Rattle.store.specs.declared.types.Key.{Key}
 use Rattle.store.specs.declared.types.Full.{Full}
+use Rattle.store.specs.declared.types.Full.the-variants.{NoRoot}
 use Rattle.store.specs.declared.types.Order.{Order}
 use Rattle.store.specs.declared.types.Order.the-variants.{Up, Down}
 use Rattle.store.specs.Slots.{kind-of, arity-of}
@@ -33,7 +34,7 @@ pub record Stacked-on (q : Roots) (from1 v : ℕ) (r : Roots) : Type 0 where
 -- one more root, or as before for want of a cell
 abbrev pub Pushed-or-full : Roots → ℕ → Roots → Result (Unit {0}) Full → Type 0
 Pushed-or-full q v r (Ok _) = Stacked-on q (q .top) v r × Has-roots (r .cells .now) (r .top)
-Pushed-or-full q v r (Err _) = (r ≡ q) × (Has-roots (q .cells .now) (q .top + 1) → ⊥)
+Pushed-or-full q v r (Err f) = (f ≡ NoRoot) × (r ≡ q) × (Has-roots (q .cells .now) (q .top + 1) → ⊥)
 
 -- n roots, and their cells as they were
 pub record Cut-to (q : Roots) (n : ℕ) (r : Roots) : Type 0 where

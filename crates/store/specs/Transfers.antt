@@ -25,10 +25,6 @@ pub record Row-of (ps ws : List ℕ) (t : Term) : Type 0 where
   pub written : row t ≡ ws
   pub fits : Fits ps t
 
--- no sign has more than 4 parts
-abbrev pub Few-parts : List ℕ → Type 0
-Few-parts ps = (f : ℕ) → f < length ps → getD ps f 0 ≤ 4
-
 -- how many parts a symbol of two words takes from the roots, and the term that it makes of them
 abbrev pub takes : List ℕ → ℕ → ℕ → ℕ
 takes ps zero x = 0

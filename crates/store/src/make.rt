@@ -1,7 +1,7 @@
 // Making terms: a term's place is found or added, and a full store is collected first.
 ghost use mathlib.Core.Path.{_≡_};
 ghost use mathlib.Core.Bool.{false};
-ghost use Prim.Native.Nat.{ℕ, _+_, _-_, _*_, _/_, _<_, _≤_};
+ghost use Prim.Native.Nat.{ℕ, _+_, _-_, _*_, _/_, _^_, _<_, _≤_};
 ghost use lib.ListN.{length};
 ghost use Rattle.rewriting.specs.Terms.{letter, sign};
 ghost use Rattle.store.specs.Slots.{kind-of, tag-of, arity-of, flag-of, Fits-in, key-term};
@@ -33,6 +33,7 @@ fn mask_below(n: usize) -> usize
     requires { ⌜ 0 < n ⌝ }
     ensures low { λ r. ⌜ r < n ⌝ }
     ensures half { λ r. ⌜ n ≤ 2 * r + 2 ⌝ }
+    ensures form { λ r. ⌜ ((k : ℕ) × (r + 1 ≡ 2 ^ k)) ⌝ }
 {
     let mut mask = 0usize;
     while mask < n - 1 - mask {

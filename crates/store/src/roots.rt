@@ -1,8 +1,6 @@
 // Roots in lent words: the stack of places that are kept.
 ghost use mathlib.Core.Path.{_≡_};
-ghost use mathlib.Core.List.{List};
-ghost use Prim.Native.Nat.{ℕ, _+_, _-_, _*_, _^_, _<_, _≤_};
-ghost use lib.ListN.{length};
+ghost use Prim.Native.Nat.{_+_, _-_, _*_, _^_, _<_, _≤_};
 ghost use Rattle.store.specs.Slots.{kind-of, tag-of, arity-of};
 ghost use Rattle.store.specs.Roots.{root-at, Has-roots, Root-put};
 ghost use Rattle.store.specs.Stacks.{root-in, Stacked-on, Pushed-or-full, Root-set, Cut-to, in-order, Gathered};

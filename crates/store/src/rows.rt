@@ -1,12 +1,13 @@
 // Rows into the store and out of it, symbol by symbol.
 ghost use mathlib.Core.Path.{_≡_};
-ghost use Prim.Native.Nat.{ℕ, _+_, _-_, _<_, _≤_};
+ghost use Prim.Native.Nat.{_+_, _-_, _<_, _≤_};
 ghost use lib.ListN.{length};
 ghost use Rattle.rewriting.specs.Terms.{Term};
+ghost use Rattle.books.specs.Layouts.{Few-parts};
 ghost use Rattle.store.specs.Roots.{Has-roots};
 ghost use Rattle.store.specs.Stores.{Sound, term-in, arity-in, Inside};
 ghost use Rattle.store.specs.Making.{Made};
-ghost use Rattle.store.specs.Transfers.{Row-of, Few-parts, takes, symbol-term, Readable, Read};
+ghost use Rattle.store.specs.Transfers.{Row-of, takes, symbol-term, Readable, Read};
 ghost use Rattle.store.specs.Transfers.{Parts-or-full, Symbol-or-short, Roots-below, Written-or-short};
 use crate::types::Full;
 use crate::types::Node;

@@ -1,7 +1,7 @@
 -- One more slot passes its mark on.
-use Prim.Native.Nat.{ℕ, _-_}
+use Prim.Native.Nat.{_-_}
 use native.Mathlib.Omega.{arith}
-use Rattle.store.proofs.Marking.{mark-start, mark-skip, mark-more}
+use Rattle.store.proofs.Marking.{mark-start, mark-more}
 use Rattle.store.proofs.collect.mark_reached.Needs as need
 
 pub loop-i-holds : need.loop-i-holds

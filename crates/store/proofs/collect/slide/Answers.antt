@@ -1,6 +1,5 @@
 -- A marked slot moves down, and another is passed over.
-use mathlib.Core.Path.{_≡_, _∙_}
-use Prim.Native.Nat.{ℕ, _+_}
+use mathlib.Core.Path.{_∙_}
 use native.Mathlib.Omega.{arith}
 use Rattle.store.proofs.Sliding.{slide-start, slide-skip, slide-step}
 use Rattle.store.proofs.Chaining.{chains-none}

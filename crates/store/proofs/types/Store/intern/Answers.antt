@@ -1,5 +1,5 @@
 -- Found, it is there; else it is one slot more.
-use mathlib.Core.Path.{_≡_, refl, _∙_}
+use mathlib.Core.Path.{refl, _∙_}
 use native.Mathlib.Omega.{arith}
 use Rattle.store.proofs.Telling.{holds-term}
 use Rattle.store.proofs.Placing.{one-more, grown-same}

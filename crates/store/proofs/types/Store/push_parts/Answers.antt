@@ -1,6 +1,6 @@
 -- One part more, or no cell for it.
 use mathlib.Core.Path.{_≡_, _∙_, ap, subst}
-use Prim.Native.Nat.{ℕ, suc, _+_, _-_}
+use Prim.Native.Nat.{ℕ, _+_, _-_}
 use native.Mathlib.Omega.{arith}
 use lib.ListN.{length}
 use Rattle.store.specs.declared.types.Roots.{Roots}
@@ -15,9 +15,9 @@ loop-k-holds c = pushed-none (c .args .self .now) (c .args .roots .now) (c .args
 pub returns-in-Err : need.returns-in-Err
 returns-in-Err c =
     let h = c .in-Err .ensures tt in let i = c .loop-k .inv in (
-      ap (λ (r : Roots). length (r .cells .now)) (h .0) ∙ i .long,
-      λ j l. ap (λ (r : Roots). root-in r j) (h .0) ∙ i .rest j l,
-      λ f. h .1 (omega (arith, i .long, i .top)),
+      ap (λ (r : Roots). length (r .cells .now)) (h .1) ∙ i .long,
+      λ j l. ap (λ (r : Roots). root-in r j) (h .1) ∙ i .rest j l,
+      λ f. h .2 (omega (arith, i .long, i .top)),
     )
 
 pub loop-k-again : need.loop-k-again

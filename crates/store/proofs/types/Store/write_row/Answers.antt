@@ -1,10 +1,10 @@
 -- Each symbol that is written leaves the rest on the roots.
-use mathlib.Core.Path.{_≡_, _∙_, sym, ap, subst}
-use Prim.Native.Nat.{ℕ, _<_, _≤_}
+use mathlib.Core.Path.{_≡_, _∙_, ap, subst}
+use Prim.Native.Nat.{ℕ, _<_}
 use native.Mathlib.Omega.{arith}
 use lib.ListN.{length}
 use Rattle.std.specs.declared.result.Result.the-variants.{Err}
-use Rattle.rewriting.specs.Terms.{Term, size}
+use Rattle.rewriting.specs.Terms.{size}
 use Rattle.rewriting.proofs.Glueing.{size-some}
 use Rattle.books.specs.Rows.{row}
 use Rattle.store.specs.declared.types.Roots.{Roots}
@@ -18,9 +18,9 @@ pub returns-in-Err : need.returns-in-Err
 returns-in-Err c =
     let h = c .in-Err .ensures tt in
     record {
-      top = ap (λ (r : Roots). r .top) (h .0);
-      below = record { long = ap (λ (r : Roots). length (r .cells .now)) (h .0); rest = λ j l. ap (λ (r : Roots). root-in r j) (h .0) };
-      written = λ f. h .1 (omega (arith, size-some (term-in (c .args .self .now) (c .args .p .0))));
+      top = ap (λ (r : Roots). r .top) (h .1);
+      below = record { long = ap (λ (r : Roots). length (r .cells .now)) (h .1); rest = λ j l. ap (λ (r : Roots). root-in r j) (h .1) };
+      written = λ f. h .2 (omega (arith, size-some (term-in (c .args .self .now) (c .args .p .0))));
     }
 
 pub returns-in-Err-write-symbol : need.returns-in-Err-write-symbol
