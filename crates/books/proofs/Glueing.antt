@@ -5,9 +5,10 @@ use Prim.Native.Nat.{ℕ, zero, suc, _+_, _*_, _≤_, _<_}
 use native.Mathlib.Omega.{arith}
 use native.Mathlib.Numerals.{one-add}
 use lib.ListN.{length, length-append}
-use Rattle.rewriting.specs.Terms.{Term, letter, sign, Terms, none1, and1, count, size, sizes, Over, All-over}
+use Rattle.rewriting.specs.Terms.{Term, letter, sign, Terms, none1, and1, glue, count, size, sizes, Over, All-over}
+use Rattle.rewriting.proofs.Glueing.{count-glue}
 use Rattle.books.specs.Rows.{row, rows}
-use Rattle.books.specs.Reading.{glue, first, others}
+use Rattle.books.specs.Reading.{first, others}
 
 pub glue-none : (ts : Terms) → glue ts none1 ≡ ts
 glue-none none1 = refl
@@ -25,10 +26,6 @@ pub glue-split : (n : ℕ) (ts : Terms) → glue (first n ts) (others n ts) ≡ 
 glue-split zero ts = refl
 glue-split (suc n) none1 = refl
 glue-split (suc n) (and1 t ts) = ap (and1 t) (glue-split n ts)
-
-pub count-glue : (ts us : Terms) → count (glue ts us) ≡ count ts + count us
-count-glue none1 us = omega arith
-count-glue (and1 t ts) us = omega (arith, count-glue ts us)
 
 pub count-first : (n : ℕ) (ts : Terms) → n ≤ count ts → count (first n ts) ≡ n
 count-first zero ts h = refl
@@ -51,14 +48,6 @@ mutual
   pub rows-length : (ts : Terms) → length (rows ts) ≡ 2 * sizes ts
   rows-length none1 = refl
   rows-length (and1 t ts) = length-append (row t) (rows ts) ∙ omega (arith, row-length t, rows-length ts)
-
-pub size-some : (t : Term) → 1 ≤ size t
-size-some (letter x) = omega arith
-size-some (sign f ts) = omega arith
-
-pub count-sizes : (ts : Terms) → count ts ≤ sizes ts
-count-sizes none1 = omega arith
-count-sizes (and1 t ts) = omega (arith, size-some t, count-sizes ts)
 
 module _ (L : ℕ → Type 0) (ps : List ℕ) where
   pub over-glue : (ts us : Terms) → All-over L ps ts → All-over L ps us → All-over L ps (glue ts us)

@@ -9,3 +9,4 @@ pub mod Unique
 pub mod Siding
 pub mod Building
 pub mod Waying
+pub mod Forests

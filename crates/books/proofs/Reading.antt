@@ -8,14 +8,14 @@ use native.Mathlib.Omega.{arith}
 use native.Mathlib.Nat.{zero-add}
 use lib.ListN.{length, length-append}
 use lib.Dec.{T, ltb, ltb→lt, lt→ltb}
-use Rattle.rewriting.specs.Terms.{nth, Term, letter, sign, Terms, none1, and1, count, size, sizes, Over, All-over}
+use Rattle.rewriting.specs.Terms.{nth, Term, letter, sign, Terms, none1, and1, glue, count, size, sizes, Over, All-over}
 use Rattle.books.specs.Rows.{row, rows}
-use Rattle.books.specs.Reading.{Allowed, allowed, opens, glue, first, others}
+use Rattle.books.specs.Reading.{Allowed, allowed, opens, first, others}
 use Rattle.books.specs.Reading.{Found, symbol, topped, opened, read, left-of, terms-of}
 use Rattle.books.specs.declared.words.Letters.{Letters}
 use Rattle.books.specs.declared.words.Letters.the-variants.{Small, Any}
 use Rattle.books.proofs.Glueing.{glue-none, first-glue, others-glue, glue-split, count-first, count-others, rows-glue}
-use Rattle.books.proofs.Glueing.{rows-length, count-sizes, over-first, over-others}
+use Rattle.books.proofs.Glueing.{over-first, over-others}
 
 pub no-some : {A : Type 0} {a : A} → none ≡ some a → ⊥
 no-some e = let z : _≡_ {A = ℕ} 0 1 = cc in omega arith

@@ -8,6 +8,7 @@ use native.Mathlib.Numerals.{add-one}
 use lib.ListN.{length, getD, drop, length-append, length-drop}
 use lib.Seq.{drop-cons}
 use Rattle.rewriting.specs.Terms.{nth, Term, Terms, none1, and1, count, sizes, All-over, Over}
+use Rattle.rewriting.proofs.Glueing.{size-some, count-sizes}
 use Rattle.books.specs.Rows.{row, rows}
 use Rattle.books.specs.Reading.{Allowed, opens, tag, number, Symbol-at, Asks}
 use Rattle.books.specs.Reading.{Found, topped, read, left-of, Terms-at, Terms-end, Term-end, Term-at}
@@ -15,7 +16,7 @@ use Rattle.books.specs.declared.words.Symbol.{Symbol}
 use Rattle.books.specs.declared.words.Letters.{Letters}
 use Rattle.std.specs.declared.option.Option.{Option as Maybe}
 use Rattle.std.specs.declared.option.Option.the-variants.{Some, None}
-use Rattle.books.proofs.Glueing.{row-length, rows-length, size-some, count-sizes}
+use Rattle.books.proofs.Glueing.{row-length, rows-length}
 use Rattle.books.proofs.Reading.{no-some, read-step, read-stuck, read-these, Right, read-right}
 
 pub drop-two : (ws : List ℕ) (i : ℕ) → i + 2 ≤ length ws → drop i ws ≡ getD ws i 0 ∷ getD ws (i + 1) 0 ∷ drop (i + 2) ws

@@ -5,12 +5,13 @@ use mathlib.Core.Option.{Option, some, none}
 use Prim.Native.Nat.{ℕ, zero, suc, _+_, _*_, _≤_, _<_}
 use native.Mathlib.Omega.{arith}
 use lib.ListN.{length}
-use Rattle.rewriting.specs.Terms.{nth, Term, Terms, none1, and1, count, size, Over, All-over, Small-letter}
+use Rattle.rewriting.specs.Terms.{nth, Term, Terms, none1, and1, glue, count, size, Over, All-over, Small-letter}
 use Rattle.rewriting.specs.Rules.{Eq}
 use Rattle.rewriting.specs.Books.{Sides, All-sides}
 use Rattle.books.specs.Rows.{row, rows, rowEs, rowTerms}
-use Rattle.books.specs.Reading.{glue, first, others, paired}
+use Rattle.books.specs.Reading.{first, others, paired}
 use Rattle.books.specs.Layouts.{sides, listed, Short}
+use Rattle.books.proofs.Reading.{no-some}
 
 -- a list of terms as parts
 abbrev pub terms : List Term → Terms
@@ -94,3 +95,21 @@ listed-paired (suc n) (and1 t none1) h = absurd (omega arith)
 listed-paired (suc n) (and1 t (and1 u ts)) h =
     let e : 2 * suc n ≡ suc (suc (2 * n)) = omega arith in
     rw e (ap (λ (us : List Term). t ∷ u ∷ us) (listed-paired n ts (omega arith)))
+
+-- the sides of equation i
+pub nth-left : (es : List Eq) (i : ℕ) (e : Eq) → nth es i ≡ some e → nth (sides es) (2 * i) ≡ some (e .left)
+nth-left [] i e h = absurd (no-some h)
+nth-left (d ∷ es) zero e h = let q : d ≡ e = cc in ap (λ (c : Eq). some (c .left)) q
+nth-left (d ∷ es) (suc i) e h = let k : 2 * suc i ≡ suc (suc (2 * i)) = omega arith in rw k (nth-left es i e h)
+
+pub nth-right : (es : List Eq) (i : ℕ) (e : Eq) → nth es i ≡ some e → nth (sides es) (2 * i + 1) ≡ some (e .right)
+nth-right [] i e h = absurd (no-some h)
+nth-right (d ∷ es) zero e h = let q : d ≡ e = cc in ap (λ (c : Eq). some (c .right)) q
+nth-right (d ∷ es) (suc i) e h = let k : 2 * suc i + 1 ≡ suc (suc (2 * i + 1)) = omega arith in rw k (nth-right es i e h)
+
+-- behind the sides of some equations
+pub nth-behind : (es : List Eq) (ts : List Term) (k : ℕ) → nth (sides es ++ ts) (2 * length es + k) ≡ nth ts k
+nth-behind [] ts k = let e : 2 * 0 + k ≡ k = omega arith in rw e refl
+nth-behind (d ∷ es) ts k =
+    let e : 2 * suc (length es) + k ≡ suc (suc (2 * length es + k)) = omega arith in
+    rw e (nth-behind es ts k)

@@ -8,15 +8,15 @@ use native.Mathlib.Omega.{arith}
 use native.Mathlib.Decide.{decLt}
 use lib.ListN.{length, getD, drop, set, length-append, length-drop}
 use lib.Seq.{getD-set-same, getD-set-other}
-use Rattle.rewriting.specs.Terms.{nth, Term, Terms, none1, and1, count, size, Over, All-over, Small-letter}
+use Rattle.rewriting.specs.Terms.{nth, Term, Terms, none1, and1, glue, count, size, Over, All-over, Small-letter}
+use Rattle.rewriting.proofs.Glueing.{count-glue}
 use Rattle.books.specs.Rows.{row, rows}
-use Rattle.books.specs.Reading.{glue, first, others, read, Term-at, Term-end}
+use Rattle.books.specs.Reading.{first, others, read, Term-at, Term-end}
 use Rattle.books.specs.Layouts.{listed, Short, Sides-at, Sides-read}
 use Rattle.books.specs.declared.words.Letters.the-variants.{Small}
 use Rattle.std.specs.declared.option.Option.{Option as Maybe}
 use Rattle.std.specs.declared.option.Option.the-variants.{Some, None}
-use Rattle.books.proofs.Glueing.{count-glue, glue-split, count-first, count-others, rows-glue, over-glue, over-first, over-others}
-use Rattle.books.proofs.Glueing.{row-length, size-some}
+use Rattle.books.proofs.Glueing.{glue-split, count-first, count-others, rows-glue, over-glue, over-first, over-others}
 use Rattle.books.proofs.Reading.{no-some}
 use Rattle.books.proofs.Elements.{nth-below}
 use Rattle.books.proofs.Unique.{rows-once}

@@ -5,11 +5,11 @@ use mathlib.Core.Option.{Option, some, none}
 use Prim.Native.Nat.{ℕ, zero, suc, _+_, _*_, _≤_, _<_}
 use native.Mathlib.Omega.{arith}
 use lib.ListN.{length, drop, length-append}
-use Rattle.rewriting.specs.Terms.{nth, Term, Terms, none1, and1, count, Over, All-over, Small-letter, Any-letter}
+use Rattle.rewriting.specs.Terms.{nth, Term, Terms, none1, and1, glue, count, Over, All-over, Small-letter, Any-letter}
 use Rattle.rewriting.specs.Rules.{Eq}
 use Rattle.rewriting.specs.Books.{Book, Fine}
 use Rattle.books.specs.Rows.{row, rows, rowEs, rowTerms, rowWays, Reads, Of, All-fit, Ways-fit}
-use Rattle.books.specs.Reading.{Allowed, read, terms-of, glue, others, paired}
+use Rattle.books.specs.Reading.{Allowed, read, terms-of, others, paired}
 use Rattle.books.specs.Reading.{book-of, signs-of, parts-of, ranks-of, eqs-of, rules-of, body-of}
 use Rattle.books.specs.Layouts.{sides, sides-of, listed}
 use Rattle.books.specs.Theorems.{One-book, The-book, One-term, One-ways, One-reading, Sum-row}

@@ -22,10 +22,6 @@ sides (e ∷ es) = e .left ∷ e .right ∷ sides es
 abbrev pub sides-of : Book → List Term
 sides-of b = sides (b .eqs) ++ sides (b .rules)
 
--- where side i starts and ends
-abbrev pub Bounds : Layout → ℕ → ℕ → ℕ → Type 0
-Bounds l i a z = (a ≡ getD (l .starts) i 0) × (z ≡ getD (l .starts) (i + 1) 0)
-
 -- each side stands from its start to its end
 pub record Laid (s : List ℕ) (b : Book) (l : Layout) : Type 0 where
   pub signs : l .signs ≡ length (b .parts)

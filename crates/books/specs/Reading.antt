@@ -51,11 +51,7 @@ abbrev pub Asks : Letters → List ℕ → Symbol → Maybe ℕ → Type 0
 Asks l ps y (Some n) = opens l ps (tag y) (number y) ≡ some n
 Asks l ps y None = opens l ps (tag y) (number y) ≡ none
 
--- terms behind terms; the first n of them, and the others
-abbrev pub glue : Terms → Terms → Terms
-glue none1 us = us
-glue (and1 t ts) us = and1 t (glue ts us)
-
+-- the first n terms, and the others
 abbrev pub first : ℕ → Terms → Terms
 first zero ts = none1
 first (suc n) none1 = none1

@@ -1,8 +1,6 @@
 // Where the sides of a book stand in its row.
 ghost use mathlib.Core.Path.{_≡_};
-ghost use Prim.Native.Nat.{_≤_};
-ghost use Rattle.std.specs.Options.{Cases as BySome};
-ghost use Rattle.books.specs.Layouts.{Bounds};
+ghost use lib.ListN.{getD};
 
 // Side i stands from starts[i] up to starts[i + 1]. Each equation and rule has two, its left and its right, the equations first.
 #[derive(Clone, Copy)]
@@ -32,14 +30,14 @@ impl Layout {
         self.rules
     }
 
-    // Where side i starts, and where it ends.
-    pub fn side(&self, i: usize) -> Option<(usize, usize)>
-        ensures { λ r. ⌜ BySome r (256 ≤ i) (λ p. Bounds (now (self .entry)) i (p .0) (p .1)) ⌝ }
+    // Where side i starts, and side i - 1 ends.
+    pub fn start(&self, i: usize) -> usize
+        ensures { λ r. ⌜ r ≡ getD (now (self .entry) .starts) i 0 ⌝ }
     {
-        if i < 256 {
-            Some((self.starts[i], self.starts[i + 1]))
+        if i < self.starts.len() {
+            self.starts[i]
         } else {
-            None
+            0
         }
     }
 }

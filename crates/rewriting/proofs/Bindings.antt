@@ -5,10 +5,11 @@ use Prim.Native.Nat.{ℕ}
 use native.Mathlib.Decide.{ℕ-discrete}
 use Rattle.rewriting.specs.Terms.{Term, letter, put, In}
 use Rattle.rewriting.specs.Overlaps.{Least}
-use Rattle.rewriting.proofs.Choosing.{no-some, pick, pick-has, pick-yes}
+use Rattle.rewriting.proofs.Choosing.{no-some, pick, pick-has, pick-yes, pick-no}
 use Rattle.rewriting.proofs.Replacing.{put-put, put-through, put-agree, put-letter}
 use Rattle.rewriting.proofs.Unifying.{single, single-put, single-here, single-other}
 
+-- for some letters a term
 abbrev pub Bindings : Type 0
 Bindings = ℕ → Option Term
 
@@ -29,6 +30,14 @@ no-bindings = record { free = λ x e. refl; bound = λ x u e. absurd (no-some e)
 pub bind : Bindings → ℕ → Term → Bindings
 bind σ x u y = pick (ℕ-discrete x y) (some u) (σ y)
 
+pub bind-here : (σ : Bindings) (x : ℕ) (u : Term) → bind σ x u x ≡ some u
+unfolding bind
+bind-here σ x u = pick-yes (ℕ-discrete x x) (some u) (σ x) refl
+
+pub bind-other : (σ : Bindings) (x : ℕ) (u : Term) (y : ℕ) → (x ≡ y → ⊥) → bind σ x u y ≡ σ y
+unfolding bind
+bind-other σ x u y n = pick-no (ℕ-discrete x y) (some u) (σ y) n
+
 module _ (σ : Bindings) (s : ℕ → Term) (ok : Resolved σ s) (x : ℕ) (u : Term) (unbound : σ x ≡ none) (fresh : In x (put s u) → ⊥) where
   -- what they resolve to then
   pub bound-next : ℕ → Term
@@ -40,8 +49,7 @@ module _ (σ : Bindings) (s : ℕ → Term) (ok : Resolved σ s) (x : ℕ) (u : 
       (λ d k. absurd (no-some (sym unbound ∙ (ap σ d ∙ e)))) (λ n k. k e) (h y w)
 
   holds-new : (r : ℕ → Term) → Holds (bind σ x u) r → r x ≡ put r u
-  unfolding bind
-  holds-new r h = h x u (pick-yes (ℕ-discrete x x) (some u) (σ x) refl)
+  holds-new r h = h x u (bind-here σ x u)
 
   same-put : (t : Term) → (In x t → ⊥) → put (single x (put s u)) t ≡ t
   same-put t n = put-agree (single x (put s u)) letter t

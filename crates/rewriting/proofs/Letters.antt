@@ -1,4 +1,4 @@
--- Lists of letters: of a term, and with one letter taken out.
+-- Lists of letters: of a term, and with one letter taken out; and whether a letter stands in a term.
 use mathlib.Core.Path.{_≡_, refl, subst}
 use mathlib.Core.Logic.{_⊎_, inl, inr}
 use mathlib.Core.List.{List, [], _∷_, _++_}
@@ -45,31 +45,29 @@ pub remove : ℕ → List ℕ → List ℕ
 remove x [] = []
 remove x (y ∷ ys) = pick (ℕ-discrete x y) (remove x ys) (y ∷ remove x ys)
 
-pub remove-keeps : (x : ℕ) {z : ℕ} {ys : List ℕ} → Member z ys → (x ≡ z → ⊥) → Member z (remove x ys)
+remove-has : (P : List ℕ → Type 0) (x y : ℕ) (ys : List ℕ) →
+    (x ≡ y → P (remove x ys)) → ((x ≡ y → ⊥) → P (y ∷ remove x ys)) → P (remove x (y ∷ ys))
 unfolding remove
-remove-keeps x {z} (first {xs = ys}) n =
-    pick-has (Member z) (ℕ-discrete x z) (remove x ys) (z ∷ remove x ys) (λ e. absurd (n e)) (λ k. first)
-remove-keeps x {z} (next {y = y} {xs = ys} m) n =
-    let h = remove-keeps x m n in pick-has (Member z) (ℕ-discrete x y) (remove x ys) (y ∷ remove x ys) (λ e. h) (λ k. next h)
+remove-has P x y ys h k = pick-has P (ℕ-discrete x y) (remove x ys) (y ∷ remove x ys) h k
+
+pub remove-keeps : (x : ℕ) {z : ℕ} {ys : List ℕ} → Member z ys → (x ≡ z → ⊥) → Member z (remove x ys)
+remove-keeps x {z} (first {xs = ys}) n = remove-has (Member z) x z ys (λ e. absurd (n e)) (λ k. first)
+remove-keeps x {z} (next {y = y} {xs = ys} m) n = let h = remove-keeps x m n in remove-has (Member z) x y ys (λ e. h) (λ k. next h)
 
 remove-no-longer : (x : ℕ) (ys : List ℕ) → length (remove x ys) ≤ length ys
 unfolding remove
 remove-no-longer x [] = omega arith
 remove-no-longer x (y ∷ ys) =
     let h = remove-no-longer x ys in
-    pick-has (λ (zs : List ℕ). length zs ≤ length (y ∷ ys)) (ℕ-discrete x y) (remove x ys) (y ∷ remove x ys)
-    (λ e. omega arith) (λ k. omega arith)
+    remove-has (λ (zs : List ℕ). length zs ≤ length (y ∷ ys)) x y ys (λ e. omega arith) (λ k. omega arith)
 
 pub remove-shorter : {x : ℕ} {ys : List ℕ} → Member x ys → length (remove x ys) < length ys
-unfolding remove
 remove-shorter {x} (first {xs = ys}) =
     let h = remove-no-longer x ys in
-    pick-has (λ (zs : List ℕ). length zs < length (x ∷ ys)) (ℕ-discrete x x) (remove x ys) (x ∷ remove x ys)
-    (λ e. omega arith) (λ k. absurd (k refl))
+    remove-has (λ (zs : List ℕ). length zs < length (x ∷ ys)) x x ys (λ e. omega arith) (λ k. absurd (k refl))
 remove-shorter {x} (next {y = y} {xs = ys} m) =
     let h = remove-shorter m in
-    pick-has (λ (zs : List ℕ). length zs < length (y ∷ ys)) (ℕ-discrete x y) (remove x ys) (y ∷ remove x ys)
-    (λ e. omega arith) (λ k. omega arith)
+    remove-has (λ (zs : List ℕ). length zs < length (y ∷ ys)) x y ys (λ e. omega arith) (λ k. omega arith)
 
 pub in-letter : {x y : ℕ} → In x (letter y) → x ≡ y
 in-letter is = refl

@@ -41,9 +41,12 @@ module _ (s : ℕ → Term) (x : ℕ) where
     finds-in (here {ts = ls} i) d = find-in i (finds x ls (puts s ls) d)
     finds-in (there {t = l} {ts = ls} i) d = find-else l (finds x ls (puts s ls) d) (finds-in i d)
 
+pub found-in : (s : ℕ → Term) {x : ℕ} {l : Term} → In x l → found l (put s l) x ≡ s x
+found-in s {x} i = find-in s x i (letter x)
+
 -- it does the same to a term with no other letters
 pub found-put : (s : ℕ → Term) (l u : Term) → ((x : ℕ) → In x u → In x l) → put (found l (put s l)) u ≡ put s u
-found-put s l u h = put-agree (found l (put s l)) s u (λ x i. find-in s x (h x i) (letter x))
+found-put s l u h = put-agree (found l (put s l)) s u (λ x i. found-in s (h x i))
 
 -- so a term is had from l just if it is had by what is found
 pub found-same : (s : ℕ → Term) (l t : Term) → put s l ≡ t → put (found l t) l ≡ t

@@ -96,6 +96,25 @@ mutual
   in-places x (in-this p) i = here (in-place x p i)
   in-places x (in-later p) i = there (in-places x p i)
 
+-- a letter that stands in a term is a part of it, and parts stay parts
+mutual
+  pub letter-part : {x : ℕ} {t : Term} → In x t → Part (letter x) t
+  letter-part is = itself
+  letter-part (part i) = in-part (letter-parts i)
+
+  letter-parts : {x : ℕ} {ts : Terms} → Ins x ts → Parts (letter x) ts
+  letter-parts (here i) = in-this (letter-part i)
+  letter-parts (there i) = in-later (letter-parts i)
+
+mutual
+  pub put-part : (s : ℕ → Term) {v t : Term} → Part v t → Part (put s v) (put s t)
+  put-part s itself = itself
+  put-part s (in-part p) = in-part (put-parts s p)
+
+  put-parts : (s : ℕ → Term) {v : Term} {ts : Terms} → Parts v ts → Parts (put s v) (puts s ts)
+  put-parts s (in-this p) = in-this (put-part s p)
+  put-parts s (in-later p) = in-later (put-parts s p)
+
 -- around a part
 mutual
   pub fill-agree : {n t : Term} (p : Part n t) (r s : ℕ → Term) (w : Term) → ((x : ℕ) → In x t → r x ≡ s x) → fill p r w ≡ fill p s w

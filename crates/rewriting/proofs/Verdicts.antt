@@ -11,6 +11,7 @@ use Rattle.rewriting.specs.Overlaps.{Least, Peak, first-result, second-result}
 use Rattle.rewriting.specs.Books.{Book, Fine, One-end}
 use Rattle.rewriting.proofs.Choosing.{Each}
 use Rattle.rewriting.proofs.Replacing.{put-through}
+use Rattle.rewriting.proofs.Glueing.{size-some}
 use Rattle.rewriting.proofs.Stepping.{trans, done-stays}
 use Rattle.rewriting.proofs.Settling.{one-done}
 use Rattle.rewriting.proofs.Unifying.{Never}
@@ -51,13 +52,9 @@ pub same-by : {rs : List Eq} (t u n : Term) → Steps rs t n → Steps rs u n �
 same-by t u n h k = (n, h, k)
 
 -- replacing makes no term smaller
-size-positive : (t : Term) → 1 ≤ size t
-size-positive (letter x) = omega arith
-size-positive (sign f ts) = omega arith
-
 mutual
   pub size-put : (s : ℕ → Term) (t : Term) → size t ≤ size (put s t)
-  size-put s (letter x) = size-positive (s x)
+  size-put s (letter x) = size-some (s x)
   size-put s (sign f ts) = let h = sizes-put s ts in omega arith
 
   sizes-put : (s : ℕ → Term) (ts : Terms) → sizes ts ≤ sizes (puts s ts)

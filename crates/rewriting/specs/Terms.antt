@@ -45,6 +45,11 @@ abbrev pub count : Terms → ℕ
 count none1 = 0
 count (and1 t ts) = 1 + count ts
 
+-- parts with others behind them
+abbrev pub glue : Terms → Terms → Terms
+glue none1 us = us
+glue (and1 t ts) us = and1 t (glue ts us)
+
 -- letter x stands in a term
 mutual
   pub data In (x : ℕ) : Term → Type 0 where

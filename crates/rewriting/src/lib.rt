@@ -1,7 +1,10 @@
 // The theory of rewriting that judging rests on: each function carries one theorem as its contract, and does nothing.
 ghost use Rattle.rewriting.specs.Theorems.{Heights, Made-one, Order-ends, Order-kept};
 ghost use Rattle.rewriting.specs.Theorems.{Down-ends, Overlaps-tell, Peaks-tell, Settled, Told-by-pairs};
+ghost use Rattle.rewriting.specs.Different.{Different-counts};
 ghost use Rattle.rewriting.specs.Sums.{Sums-worked};
+ghost use Rattle.rewriting.specs.Machine-theorems.{Machine-steps, Machine-valid, Machine-cost, Machine-ends};
+ghost use Rattle.rewriting.specs.Machine-theorems.{Machine-room, Machine-places, Machine-remembers};
 
 // The path order has no endless way down.
 pub fn order_ends()
@@ -51,4 +54,44 @@ pub fn settled()
 // Sums of numbers as a worked example.
 pub fn sums_worked()
     ensures { λ _. ⌜ Sums-worked ⌝ }
+{}
+
+// What the number of different parts of terms is.
+pub fn different_counts()
+    ensures { λ _. ⌜ Different-counts ⌝ }
+{}
+
+// Each move of the machine keeps the whole term or leads on from it by steps.
+pub fn machine_steps()
+    ensures { λ _. ⌜ Machine-steps ⌝ }
+{}
+
+// What is valid stays valid, and what a finished state has is done.
+pub fn machine_valid()
+    ensures { λ _. ⌜ Machine-valid ⌝ }
+{}
+
+// There is a number for each state that every move makes smaller.
+pub fn machine_cost()
+    ensures { λ _. ⌜ Machine-cost ⌝ }
+{}
+
+// There is a move until the machine is finished, and it comes to be.
+pub fn machine_ends()
+    ensures { λ _. ⌜ Machine-ends ⌝ }
+{}
+
+// Frames are fewer than the whole's different parts, and all that is held are parts of the whole.
+pub fn machine_room()
+    ensures { λ _. ⌜ Machine-room ⌝ }
+{}
+
+// Each frame lacks one part, so it holds no more than three.
+pub fn machine_places()
+    ensures { λ _. ⌜ Machine-places ⌝ }
+{}
+
+// A normal form that is reached is that of the term that was asked for.
+pub fn machine_remembers()
+    ensures { λ _. ⌜ Machine-remembers ⌝ }
 {}

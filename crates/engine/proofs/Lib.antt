@@ -1,0 +1,4 @@
+-- Proofs on rewriting over the store.
+pub mod Bookish
+pub mod Pendings
+pub mod Matcher

@@ -1,0 +1,3 @@
+-- Rewriting over the store: the definitions that the contracts cite.
+pub mod Books
+pub mod Matching

@@ -1,0 +1,12 @@
+-- Lemmas on cells, slots, chains and stores.
+pub mod Cases
+pub mod Writing
+pub mod Decoding
+pub mod Telling
+pub mod Chaining
+pub mod Marking
+pub mod Sliding
+pub mod Collecting
+pub mod Viewing
+pub mod Placing
+pub mod Keeping

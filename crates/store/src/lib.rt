@@ -1,0 +1,14 @@
+// Shared terms in lent words: equal terms have one place, and what no root reaches is taken back.
+mod chains;
+mod collect;
+mod make;
+mod roots;
+mod slots;
+mod types;
+mod view;
+
+pub use types::Full;
+pub use types::Node;
+pub use types::Place;
+pub use types::Roots;
+pub use types::Store;
