@@ -30,10 +30,8 @@ fn pair_text(heap: Global, book: &Book, number: usize, mark: &str) -> Result<Str
         signature: &book.signature,
         out: String::new(heap),
     };
-    if number < 128
-        && let Some((start, _)) = book.layout.side(2 * number)
-    {
-        printer.add_sides(book.words.as_slice(), start, mark)?;
+    if number < 128 {
+        printer.add_sides(book.words.as_slice(), book.layout.start(2 * number), mark)?;
     }
     let Printer { out, .. } = printer;
     Ok(out)

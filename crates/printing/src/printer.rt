@@ -174,11 +174,8 @@ impl Printer<'_> {
         layout: Layout,
         ways: &[u32],
     ) -> Result<(), AllocError> {
-        let Some((first, _)) = layout.side(0) else {
-            return Ok(());
-        };
         self.add_names()?;
-        let place = self.add_equations(words, first, layout.equations())?;
+        let place = self.add_equations(words, layout.start(0), layout.equations())?;
         self.add_rules(words, place, layout.rules(), ways)?;
         self.add("\n")
     }
