@@ -1,6 +1,4 @@
 // Judges a book of equations and rules. For now it reads the book, and says what it has read.
-mod options;
-
 use books::read_book;
 use lexing::fault::Error;
 use lexing::fault::ErrorDisplay;

@@ -1,7 +1,7 @@
 -- the work words stay within what is left
 use Prim.Native.Nat.{_-_, _≤_}
 use lib.ListN.{length}
-use Rattle.judge.proofs.options.read_arguments.Given as given
+use Rattle.options.proofs.read_arguments.Given as given
 
 abbrev pub Inv-loop-at : given.InvT-loop-at
 Inv-loop-at l = l .options .work ≤ 851968

@@ -1,7 +1,7 @@
 -- What the command line may ask for.
 use Prim.Native.Nat.{_≤_}
-use Rattle.judge.specs.declared.options.Asked.{Asked}
-use Rattle.judge.specs.declared.options.Asked.the-variants.{Help, Version, Judge}
+use Rattle.options.specs.declared.Asked.{Asked}
+use Rattle.options.specs.declared.Asked.the-variants.{Help, Version, Judge}
 
 -- the work words fit beside the other buffers
 abbrev pub Within : Asked → Type 0

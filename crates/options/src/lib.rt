@@ -2,7 +2,7 @@
 ghost use mathlib.Core.Path.{_≡_};
 ghost use Prim.Native.Nat.{_≤_};
 ghost use Rattle.std.specs.Results.{Cases};
-ghost use Rattle.judge.specs.Requests.{Within};
+ghost use Rattle.options.specs.Requests.{Within};
 use std::fmt;
 
 // All buffers together have at most 4 MiB. Of these 768 KiB are for the text, the rows, the names and reading; the rest can be lent as
