@@ -1,14 +1,12 @@
 // Judges a book of equations and rules. For now it reads the book, and says what it has read.
-mod options;
-
 use books::read_book;
-use notation::fault::Error;
-use notation::fault::ErrorDisplay;
-use notation::fault::ErrorFromAlloc;
-use notation::fault::Place;
-use notation::fault::place_after;
+use lexing::fault::Error;
+use lexing::fault::ErrorDisplay;
+use lexing::fault::ErrorFromAlloc;
+use lexing::fault::Place;
+use lexing::fault::place_after;
+use lexing::read_rows;
 use notation::parse;
-use notation::read_rows;
 use options::Asked;
 use options::Options;
 use options::RefusalDisplay;

@@ -55,7 +55,8 @@ pub whole : (k : Named-book) (x : Sides) → Book-ways (vec-items (k .words)) (v
 unfolding after
 whole k x (b, r, p, w) e n =
     let ss = vec-items (k .signature .signs) in
-    let long : length (b .parts) ≡ length (parts-in ss) = omega (arith, p .signs, length-map ss (λ (s : Sign). s .parts), k .signature .signs .ok .0) in
+    let long : length (b .parts) ≡ length (parts-in ss) =
+    omega (arith, p .signs, length-map ss (λ (s : Sign). s .parts), k .signature .signs .ok .0) in
     let (ps, rest) = halves (b .parts) (parts-in ss) (after b) (ranks-in ss ++ (x .equations ∷ x .rules ∷ vec-items (x .row))) long
     (tail-eq-of-cons-eq (r .is ∙ e)) in
     let ranks-long : length (b .ranks) ≡ length (ranks-in ss) = omega (

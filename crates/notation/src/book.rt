@@ -1,25 +1,22 @@
-// Books with their names: read from the readable form and written in it.
-ghost use mathlib.Core.List.{[], _++_};
+// Books with their names, read from the readable form.
+ghost use mathlib.Core.List.{_++_};
 ghost use mathlib.Core.Path.{_≡_};
-ghost use Prim.Native.Nat.{_≤_};
-ghost use Rattle.std.specs.Of.String.{string-bytes};
 ghost use Rattle.std.specs.Of.Vec.{vec-items};
 ghost use Rattle.std.specs.Options.{Cases as BySome};
 ghost use Rattle.std.specs.Vec.{made};
 ghost use Rattle.notation.specs.Rows.{Book-ways as BookWays};
 ghost use Rattle.notation.specs.Books.{parts-in, ranks-in, row-with, Whole};
-use crate::fault::Error;
-use crate::fault::ErrorFromAlloc;
-use crate::fault::Expected;
 use crate::parser::Parser;
-use crate::printer::Printer;
-use crate::sections::MOST_WORDS;
 use crate::sections::Sides;
 use crate::signature::Sign;
 use crate::signature::Signature;
 use books::Layout;
 use books::are_ways;
 use books::read_book;
+use lexing::MOST_WORDS;
+use lexing::fault::Error;
+use lexing::fault::ErrorFromAlloc;
+use lexing::fault::Expected;
 use std::alloc::AllocError;
 use std::alloc::Global;
 
@@ -99,44 +96,5 @@ pub fn parse(heap: Global, text: &str) -> Result<Book, Error>
             })
         }
         _ => Err(parser.fault(Expected::Words("a book"))),
-    }
-}
-
-impl Book {
-    // The book in the readable form.
-    pub fn to_text(&self, heap: Global) -> Result<String, AllocError> {
-        let mut printer = Printer::new(heap, &self.signature);
-        printer.add_book(self.words.as_slice(), self.layout, self.ways.as_slice())?;
-        Ok(printer.text())
-    }
-
-    // The equation or rule with this number, the rules counted after the equations; nothing where there is none.
-    fn pair_text(&self, heap: Global, number: usize, mark: &str) -> Result<String, AllocError> {
-        let mut printer = Printer::new(heap, &self.signature);
-        if number < 128 {
-            let start = self.layout.start(2 * number);
-            printer.add_sides(self.words.as_slice(), start, mark)?;
-        }
-        Ok(printer.text())
-    }
-
-    // The equation with this number, from 0; nothing where there is none.
-    pub fn equation_text(&self, heap: Global, number: usize) -> Result<String, AllocError>
-        ensures { λ r. ⌜ (now (self .entry) .layout .equations ≤ number → made r (λ t. string-bytes t ≡ [])) ⌝ }
-    {
-        if number >= self.layout.equations() {
-            return Ok(String::new(heap));
-        }
-        self.pair_text(heap, number, " = ")
-    }
-
-    // The rule with this number, from 0; nothing where there is none.
-    pub fn rule_text(&self, heap: Global, number: usize) -> Result<String, AllocError>
-        ensures { λ r. ⌜ (now (self .entry) .layout .rules ≤ number → made r (λ t. string-bytes t ≡ [])) ⌝ }
-    {
-        if number >= self.layout.rules() {
-            return Ok(String::new(heap));
-        }
-        self.pair_text(heap, number.saturating_add(self.layout.equations()), " -> ")
     }
 }

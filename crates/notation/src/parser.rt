@@ -2,14 +2,14 @@
 ghost use mathlib.Core.Path.{_≡_};
 ghost use Prim.Native.Nat.{_≤_};
 ghost use Rattle.std.specs.Vec.{made};
-use crate::fault::Error;
-use crate::fault::ErrorFromAlloc;
-use crate::fault::Expected;
-use crate::fault::fault_at;
-use crate::lexer::Kind;
-use crate::lexer::Token;
-use crate::lexer::token_from;
 use crate::signature::Signature;
+use lexing::fault::Error;
+use lexing::fault::ErrorFromAlloc;
+use lexing::fault::Expected;
+use lexing::fault::fault_at;
+use lexing::lexer::Kind;
+use lexing::lexer::Token;
+use lexing::lexer::token_from;
 use std::alloc::Global;
 
 // The longest name, in characters.
@@ -39,19 +39,23 @@ impl<'a> Parser<'a> {
         self.token = token_from(self.text, end);
     }
 
-    // The error that the token stands where something else was expected.
-    pub(crate) fn fault_at(&self, token: Token<'_>, expected: Expected) -> Error {
-        fault_at(self.heap, self.text, token, expected)
-    }
-
-    // The same of the next token.
+    // The error that the next token stands where something else was expected.
     pub(crate) fn fault(&self, expected: Expected) -> Error {
-        self.fault_at(self.token, expected)
+        fault_at(self.heap, self.text, self.token, expected)
     }
 
     // Takes a token of this kind, if it comes next.
     pub(crate) fn take(&mut self, kind: Kind) -> bool {
         let found = self.token.is(kind);
+        if found {
+            self.advance();
+        }
+        found
+    }
+
+    // Takes this word, if it comes next.
+    pub(crate) fn take_word(&mut self, word: &[u8]) -> bool {
+        let found = self.token.is_word(word);
         if found {
             self.advance();
         }

@@ -2,14 +2,15 @@
 ghost use Prim.Native.Nat.{_+_, _*_, _≤_};
 ghost use Rattle.std.specs.Of.Vec.{vec-len};
 ghost use Rattle.std.specs.Vec.{made};
-use crate::fault::Error;
-use crate::fault::ErrorFromAlloc;
-use crate::fault::ErrorFromRefused;
-use crate::fault::Expected;
-use crate::lexer::Kind;
 use crate::parser::Parser;
 use crate::signature::Sign;
 use crate::terms::Limits;
+use lexing::MOST_WORDS;
+use lexing::fault::Error;
+use lexing::fault::ErrorFromAlloc;
+use lexing::fault::ErrorFromRefused;
+use lexing::fault::Expected;
+use lexing::lexer::Kind;
 
 const MOST_SIGNS: u32 = 32;
 
@@ -20,9 +21,6 @@ const MOST_LETTERS: u32 = 256;
 const MOST_EQUATIONS: u32 = 64;
 
 const MOST_RULES: u32 = 64;
-
-// How many words the longest row of a book has: 67, and 64 for each side. The ways' row may be as long.
-pub const MOST_WORDS: usize = 16_451;
 
 // A side of an equation or a rule.
 const SIDE: Limits = Limits {
@@ -57,12 +55,14 @@ impl Parser<'_> {
             return Ok(number);
         }
         self.advance();
-        let at = self.token;
-        let rank = self.number(u32::MAX, Expected::Words("a rank of at most 32 bits"))?;
-        if self.signature.has_rank(rank) {
-            return Err(self.fault_at(at, Expected::Words("a rank that no other sign has")));
+        match self.token.number() {
+            Some(rank) if !self.signature.has_rank(rank) => {
+                self.advance();
+                Ok(rank)
+            }
+            Some(_) => Err(self.fault(Expected::Words("a rank that no other sign has"))),
+            None => Err(self.fault(Expected::Words("a rank of at most 32 bits"))),
         }
-        Ok(rank)
     }
 
     // Takes a sign; whether it says its rank.
@@ -79,10 +79,9 @@ impl Parser<'_> {
 
     // Takes the signs, and tells how many.
     fn signs(&mut self) -> Result<u32, Error> {
-        if !self.token.is_word(b"signs") {
+        if !self.take_word(b"signs") {
             return Err(self.fault(Expected::Words("`signs`")));
         }
-        self.advance();
         let mut ranked = self.sign_entry(0, false)?;
         for number in 1..MOST_SIGNS {
             if !self.token.is_name() {
@@ -97,10 +96,9 @@ impl Parser<'_> {
     }
 
     fn letters(&mut self) -> Result<(), Error> {
-        if !self.token.is_word(b"letters") {
+        if !self.take_word(b"letters") {
             return Ok(());
         }
-        self.advance();
         for _i in 0..MOST_LETTERS {
             if !self.token.is_name() {
                 return Ok(());
@@ -140,22 +138,6 @@ impl Parser<'_> {
         Ok(MOST_EQUATIONS)
     }
 
-    // Takes a term of a way, and adds it to the ways' row.
-    fn way_term(&mut self, ways: &mut Vec<u32>) -> Result<(), Error>
-        ensures { λ _. ⌜ (vec-len (now (ways .entry)) ≤ 16451 → vec-len (now (ways .exit)) ≤ 16451) ⌝ }
-    {
-        let symbols = MOST_WORDS.saturating_sub(ways.len()) / 2;
-        self.term(
-            ways,
-            Limits {
-                symbols,
-                letters: u32::MAX,
-                told: 16_451,
-                of: "words of ways",
-            },
-        )
-    }
-
     // Takes the terms of a way, and tells how many.
     fn way_terms(&mut self, ways: &mut Vec<u32>) -> Result<u32, Error>
         ensures { λ _. ⌜ (vec-len (now (ways .entry)) ≤ 16451 → vec-len (now (ways .exit)) ≤ 16451) ⌝ }
@@ -164,7 +146,16 @@ impl Parser<'_> {
             if !self.take(Kind::Equals) {
                 return Ok(count);
             }
-            self.way_term(ways)?;
+            let symbols = MOST_WORDS.saturating_sub(ways.len()) / 2;
+            self.term(
+                ways,
+                Limits {
+                    symbols,
+                    letters: u32::MAX,
+                    told: 16_451,
+                    of: "words of ways",
+                },
+            )?;
         }
         Err(self.fault(Expected::AtMost(u32::MAX, "terms of a way")))
     }
@@ -204,15 +195,6 @@ impl Parser<'_> {
         Ok(MOST_RULES)
     }
 
-    // Takes the word that opens a section, if it comes next.
-    fn opens(&mut self, section: &[u8]) -> bool {
-        let found = self.token.is_word(section);
-        if found {
-            self.advance();
-        }
-        found
-    }
-
     // Takes all sections, up to the end of the text.
     pub(crate) fn sections(&mut self) -> Result<Sides, Error>
         ensures { λ r. ⌜ made r (λ s. (vec-len (s .row) ≤ 16384) × (vec-len (s .ways) ≤ 16451)) ⌝ }
@@ -223,12 +205,12 @@ impl Parser<'_> {
         let mut ways = Vec::with_capacity(self.heap, MOST_WORDS)?;
         let mut expected = "a name, `equations`, `rules` or the end of the text";
         let mut equations = 0;
-        if self.opens(b"equations") {
+        if self.take_word(b"equations") {
             equations = self.equations(&mut row)?;
             expected = "an equation, `rules` or the end of the text";
         }
         let mut rules = 0;
-        if self.opens(b"rules") {
+        if self.take_word(b"rules") {
             rules = self.rules(&mut row, &mut ways)?;
             expected = "a rule, `=` and a term of its way, or the end of the text";
         }

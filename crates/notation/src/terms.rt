@@ -1,13 +1,13 @@
 // Terms, read with a stack of the signs whose parts are not all read yet.
 ghost use Prim.Native.Nat.{_+_, _*_, _≤_};
 ghost use Rattle.std.specs.Of.Vec.{vec-len};
-use crate::fault::Error;
-use crate::fault::ErrorFromRefused;
-use crate::fault::Expected;
-use crate::fault::Mark;
-use crate::lexer::Kind;
 use crate::parser::Parser;
 use books::words::Symbol;
+use lexing::fault::Error;
+use lexing::fault::ErrorFromRefused;
+use lexing::fault::Expected;
+use lexing::fault::Mark;
+use lexing::lexer::Kind;
 
 // How many letters and signs a term may have, and below which number its letters are; and how the first limit is told.
 #[derive(Clone, Copy)]

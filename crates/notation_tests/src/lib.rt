@@ -1,12 +1,14 @@
 // Tests of the readable form: what is read, what each fault says, and that what is printed is read again as the same words.
 #[cfg(test)]
 mod tests {
+    use lexing::fault::Error;
+    use lexing::fault::ErrorDisplay;
+    use lexing::read_rows;
     use notation::Book;
-    use notation::fault::Error;
-    use notation::fault::ErrorDebug;
-    use notation::fault::ErrorDisplay;
     use notation::parse;
-    use notation::read_rows;
+    use printing::book_text;
+    use printing::equation_text;
+    use printing::rule_text;
     use std::alloc::AllocError;
     use std::alloc::Global;
     use std::test::*;
@@ -210,6 +212,13 @@ rules
         }
     }
 
+    fn read(heap: Global, text: &str) -> Result<Book, Fail> {
+        match parse(heap, text) {
+            Ok(book) => Ok(book),
+            Err(e) => Err(Fail::new(e)),
+        }
+    }
+
     #[test]
     fn faults(rt: LibcRuntime) -> Result<(), Fail> {
         let heap = rt.alloc();
@@ -222,23 +231,23 @@ rules
     #[test]
     fn sums(rt: LibcRuntime) -> Result<(), Fail> {
         let heap = rt.alloc();
-        let book = parse(heap, SUMS)?;
+        let book = read(heap, SUMS)?;
         check_eq(book.words.as_slice(), &SUMS_WORDS)?;
         check_eq(book.ways.as_slice(), &[1, 0, 1, 1, 1, 1, 1, 2, 0, 0, 0, 1])?;
         check_eq(
-            book.equation_text(heap, 1)?.as_str(),
+            equation_text(heap, &book, 1)?.as_str(),
             "plus(next(x), y) = next(plus(x, y))",
         )?;
-        check_eq(book.rule_text(heap, 0)?.as_str(), "plus(zero, y) -> y")?;
-        check_eq(book.rule_text(heap, 2)?.as_str(), "")
+        check_eq(rule_text(heap, &book, 0)?.as_str(), "plus(zero, y) -> y")?;
+        check_eq(rule_text(heap, &book, 2)?.as_str(), "")
     }
 
     #[test]
     fn printed_and_read(rt: LibcRuntime) -> Result<(), Fail> {
         let heap = rt.alloc();
         for text in [SUMS, RANKED] {
-            let book = parse(heap, text)?;
-            let again = parse(heap, book.to_text(heap)?.as_str())?;
+            let book = read(heap, text)?;
+            let again = read(heap, book_text(heap, &book)?.as_str())?;
             check_eq(again.words.as_slice(), book.words.as_slice())?;
             check_eq(again.ways.as_slice(), book.ways.as_slice())?;
         }

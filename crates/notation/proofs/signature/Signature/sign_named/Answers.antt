@@ -9,6 +9,7 @@ returns-then-eq c =
     let names = c .args .self .now .signs in
     converted (Sign-named names (c .args .name .now)) (c .try-from .result) (c .ok .result) (c .loop-i .i) _
     (c .ok .ensures .value) (c .try-from .ensures)
-    (same-name (λ s. string-bytes (s .name)) names (c .deref-sign-items .result .now) (c .loop-i .i) (c .sign-item .result) (c .as-bytes .result .now)
+    (same-name (λ s. string-bytes (s .name)) names (c .deref-sign-items .result .now) (c .loop-i .i) (c .sign-item .result)
+    (c .as-bytes .result .now)
     (c .args .name .now) (c .deref-sign-items .ensures .value) (c .loop-i-test .taken) (c .sign-item .is)
     (c .as-bytes .ensures .value) (c .if-eq .ensures tt))

@@ -1,0 +1,2 @@
+-- Lemmas on places of a text.
+pub mod Places

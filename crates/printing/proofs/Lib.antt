@@ -1,0 +1,1 @@
+-- Lemmas of the printing of books.

@@ -1,0 +1,1 @@
+-- The printing of books states nothing of its own.
