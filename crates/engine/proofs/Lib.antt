@@ -1,4 +1,3 @@
 -- Proofs on rewriting over the store.
-pub mod Bookish
 pub mod Pendings
 pub mod Matcher

@@ -1,6 +1,5 @@
 // Rewriting over the store of shared terms.
 mod bindings;
-mod book;
 mod matching;
 mod pending;
 pub mod types;

@@ -1,21 +1,5 @@
-// The types: a book by its words, what is put for letters, and the places that are still to be matched.
-use books::Layout;
+// The types: what is put for letters, and the places that are still to be matched.
 use store::Place;
-
-// A book's row, and where its sides stand there.
-#[derive(Drop)]
-pub struct Book<'a> {
-    pub words: &'a [u32],
-    pub layout: Layout,
-}
-
-// Where a rule's sides stand in the words: the left one up to where the right one starts.
-#[derive(Clone, Copy)]
-pub struct Sides {
-    pub left: usize,
-    pub right: usize,
-    pub end: usize,
-}
 
 // What is put for letters: for each of 32 a place, or nothing yet.
 #[derive(Clone, Copy)]

@@ -5,9 +5,9 @@ use native.Mathlib.Omega.{arith}
 use Rattle.rewriting.specs.Terms.{Term}
 use Rattle.store.specs.declared.types.Place.{Place}
 use Rattle.store.specs.Stores.{term-in}
-use Rattle.engine.specs.Books.{told, rule-in}
+use Rattle.books.specs.Books.{told, rule-in}
 use Rattle.engine.specs.Matching.{Instance}
-use Rattle.engine.proofs.Bookish.{rule-sides}
+use Rattle.books.proofs.Bookish.{rule-sides}
 use Rattle.engine.proofs.Matcher.{match-start, match-room, match-end}
 use Rattle.engine.proofs.matching.matches.Needs as need
 

@@ -8,12 +8,12 @@ use lib.ListN.{length, getD}
 use Rattle.rewriting.specs.Terms.{nth, Term, Over, Ok}
 use Rattle.rewriting.specs.Rules.{Eq}
 use Rattle.rewriting.specs.Books.{Sides}
 use Rattle.books.specs.Layouts.{sides, sides-of}
 use Rattle.books.specs.Reading.{Term-at}
 use Rattle.books.proofs.Elements.{nth-getD}
 use Rattle.books.proofs.Sided.{nth-left, nth-right, nth-behind}
-use Rattle.engine.specs.declared.types.Book.{Book}
-use Rattle.engine.specs.Books.{told, Sound-book, blank, rule-in, Rule-at}
+use Rattle.books.specs.declared.row.Book.{Book}
+use Rattle.books.specs.Books.{told, Sound-book, blank, rule-in, Rule-at}
 
 module _ (k : Book) (sound : Sound-book k) (i : ℕ) (low : i < length (told k .rules)) where
   pub is-rule : nth (told k .rules) i ≡ some (rule-in k i)
