@@ -2,3 +2,5 @@
 pub mod Bookish
 pub mod Pendings
 pub mod Matcher
+pub mod Builts
+pub mod Builder

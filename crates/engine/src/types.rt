@@ -1,4 +1,4 @@
-// The types: a book by its words, what is put for letters, and the places that are still to be matched.
+// The types: a book by its words, what is put for letters, and the places that are still to be matched or were built.
 use books::Layout;
 use store::Place;
 
@@ -27,5 +27,12 @@ pub struct Bindings {
 #[derive(Clone, Copy)]
 pub struct Pending {
     pub places: [Place; 36],
+    pub len: usize,
+}
+
+// The places of terms that are built and not yet parts of another, the next one last: as many as a side has symbols.
+#[derive(Clone, Copy)]
+pub struct Built {
+    pub places: [Place; 32],
     pub len: usize,
 }
