@@ -101,7 +101,7 @@ after-written ws from1 to t (suc k) w l =
     ∙ ap (drop 2) (after-written ws from1 to t k w (omega arith))
     ∙ behind-written (after k (and1 t none1)) (drop to ws) (omega (arith, after-sizes k (and1 t none1) (omega arith)))
 
-first-words : (ws : List ℕ) (a x y : ℕ) (zs : List ℕ) → drop a ws ≡ x ∷ y ∷ zs →
+pub first-words : (ws : List ℕ) (a x y : ℕ) (zs : List ℕ) → drop a ws ≡ x ∷ y ∷ zs →
     (a + 2 ≤ length ws) × (getD ws a 0 ≡ x) × (getD ws (a + 1) 0 ≡ y)
 first-words ws a x y zs e =
     let z : a + 0 ≡ a = omega arith in (
@@ -115,8 +115,8 @@ pub record Turn (a0 : Store) (ws : List ℕ) (a : ℕ) (b : Bindings) (st : Stor
   pub can : Buildable ws a b st q
   pub next : (su : Store) (r : Built) → Symbol-built ws a b st q su r → stacked su (r .places) (r .len) ≡ puts (put-in a0 b) fs
 
-module _ (ps ws : List ℕ) (told : Parts-told ps ws) (to : ℕ) (a0 : Store) (b : Bindings) (inside0 : All-inside a0 b) (a : ℕ) (st : Store) (q : Built)
-    (grown : Grown a0 st) (inside : Places-inside st (q .places) (q .len)) (short : q .len < 32) where
+module _ (ps ws : List ℕ) (told : Parts-told ps ws) (to : ℕ) (a0 : Store) (b : Bindings) (inside0 : All-inside a0 b) (a : ℕ) (st : Store)
+    (q : Built) (grown : Grown a0 st) (inside : Places-inside st (q .places) (q .len)) (short : q .len < 32) where
   still-inside : All-inside st b
   still-inside x p e = let l = inside0 x p e in let m = grown .longer in omega arith
 
@@ -192,8 +192,8 @@ none-built t a b k q s e z = record {
       ∙ ap (puts (put-in a b)) (sym (none-left (after k (and1 t none1)) (omega (arith, after-sizes k (and1 t none1) (omega arith)))));
 }
 
-module _ (ps ws : List ℕ) (told : Parts-told ps ws) (from1 to : ℕ) (t : Term) (w : Term-at ws from1 to t) (ok : Ok ps t) (small : size t ≤ 32)
-    (a : Store) (b : Bindings) (all : All-bound b t) (inside : All-inside a b) where
+module _ (ps ws : List ℕ) (told : Parts-told ps ws) (from1 to : ℕ) (t : Term) (w : Term-at ws from1 to t) (ok : Ok ps t)
+    (small : size t ≤ 32) (a : Store) (b : Bindings) (all : All-bound b t) (inside : All-inside a b) where
   turn-at : (k : ℕ) (st : Store) (q : Built) → k < size t → So-built t a b (suc k) st q →
       Turn a ws (from1 + 2 * k) b st q (after k (and1 t none1))
   turn-at k st q l s =

@@ -4,3 +4,4 @@ pub mod Pendings
 pub mod Matcher
 pub mod Builts
 pub mod Builder
+pub mod Trying

@@ -2,3 +2,4 @@
 pub mod Books
 pub mod Matching
 pub mod Building
+pub mod Rewriting

@@ -5,4 +5,5 @@ mod built;
 mod instance;
 mod matching;
 mod pending;
+pub mod rules;
 pub mod types;

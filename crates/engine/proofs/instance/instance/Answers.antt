@@ -41,4 +41,5 @@ returns c =
     built-all (told k .parts) (k .words .now) (parts-told k (c .pre .0 .0)) (c .args .from) (c .args .to) t
     (c .pre .1) (sides .right) (sides .right-size) (c .args .store .now) (c .args .bindings .now) (c .pre .3 .0) (c .pre .3 .1)
     (c .loop-k .store) (c .loop-k .built)
-    (subst (λ (n : ℕ). So-built t (c .args .store .now) (c .args .bindings .now) n (c .loop-k .store) (c .loop-k .built)) z (c .loop-k .inv))
+    (subst (λ (n : ℕ). So-built t (c .args .store .now) (c .args .bindings .now) n (c .loop-k .store) (c .loop-k .built)) z
+    (c .loop-k .inv))
