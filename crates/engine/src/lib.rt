@@ -1,5 +1,8 @@
 // Rewriting over the store of shared terms.
 mod bindings;
+mod built;
+mod instance;
 mod matching;
 mod pending;
+pub mod rules;
 pub mod types;

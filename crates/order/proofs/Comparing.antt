@@ -75,11 +75,17 @@ module _ (p : Comparison) (n k j m a b : ℕ) (skips : Skips p n k j m a b) wher
   module _ (some-left : 0 < m) where
     -- terms that differ are found
     pub skips-differ : Equates p a b false → Differ-at p n k j (Some (a, b))
-    skips-differ differ = (skips .0, skips .1, skips .2, skips .3, λ r told ts us. with-firsts some-left ts us
-        (λ v w vs ws l r to from.
-        let x = first-stands p a m v vs l in
-        let y = first-stands p b m w ws r in
-        tells-through from to (first-here (differ v w x y .fails refl) (told v w x y))))
+    skips-differ differ = (
+      skips .0,
+      skips .1,
+      skips .2,
+      skips .3,
+      λ r told ts us. with-firsts some-left ts us
+          (λ v w vs ws l r to from.
+          let x = first-stands p a m v vs l in
+          let y = first-stands p b m w ws r in
+          tells-through from to (first-here (differ v w x y .fails refl) (told v w x y))),
+    )
 
     pub skips-no-left : Ends p a None → Differ-at p n k j None
     skips-no-left none-there ts us = with-firsts some-left ts us λ v w vs ws l r to from. absurd (none-there v (first-stands p a m v vs l))

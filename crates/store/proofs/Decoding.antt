@@ -13,16 +13,16 @@ use Rattle.store.specs.Slots.{Shape, Shared, Fits-in, key-term, Added, Alike}
 use Rattle.store.proofs.Cases.{last-or-below, below-next}
 
 -- a node of the same kind and the same parts' terms is the same
-parts-same : (d e : ℕ → Term) (p q : ℕ → ℕ) (k n : ℕ) → ((m : ℕ) → k ≤ m → m < k + n → d (p m) ≡ e (q m)) →
+pub parts-by-same : (d e : ℕ → Term) (p q : ℕ → ℕ) (k n : ℕ) → ((m : ℕ) → k ≤ m → m < k + n → d (p m) ≡ e (q m)) →
     parts-by d p k n ≡ parts-by e q k n
-parts-same d e p q k zero h = refl
-parts-same d e p q k (suc n) h =
+parts-by-same d e p q k zero h = refl
+parts-by-same d e p q k (suc n) h =
     ap (λ (t : Term). and1 t (parts-by d p (k + 1) n)) (h k (omega arith) (omega arith))
-    ∙ ap (and1 (e (q k))) (parts-same d e p q (k + 1) n (λ m a b. h m (omega arith) (omega arith)))
+    ∙ ap (and1 (e (q k))) (parts-by-same d e p q (k + 1) n (λ m a b. h m (omega arith) (omega arith)))
 
 node-by-same : (d e : ℕ → Term) (p q : ℕ → ℕ) (s n : ℕ) → ((m : ℕ) → m < n - 1 → d (p m) ≡ e (q m)) → node-by d p s n ≡ node-by e q s n
 node-by-same d e p q s zero h = refl
-node-by-same d e p q s (suc n) h = ap (sign s) (parts-same d e p q 0 n (λ m a b. h m (omega arith)))
+node-by-same d e p q s (suc n) h = ap (sign s) (parts-by-same d e p q 0 n (λ m a b. h m (omega arith)))
 
 pub node-same : (d e : ℕ → Term) (i j : ℕ) (p q : ℕ → ℕ) → i ≡ j → ((m : ℕ) → m < arity-of i → d (p m) ≡ e (q m)) →
     node d i p ≡ node e j q

@@ -9,6 +9,7 @@ pub mod Sliding
 pub mod Collecting
 pub mod Viewing
 pub mod Placing
+pub mod Sharing
 pub mod Keeping
 pub mod Forests
 pub mod Reading

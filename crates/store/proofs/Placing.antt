@@ -87,6 +87,18 @@ grown-same a = record {
   new-notes = λ i l m. absurd (omega arith);
 }
 
+pub grown-then : (a b d : Store) → Grown a b → Grown b d → Grown a d
+grown-then a b d f g = record {
+  room = g .room ∙ f .room;
+  limit = g .limit ∙ f .limit;
+  longer = omega (arith, f .longer, g .longer);
+  terms = λ i l. g .terms i (omega (arith, f .longer)) ∙ f .terms i l;
+  flags = λ i l. g .flags i (omega (arith, f .longer)) ∙ f .flags i l;
+  notes = λ i l. g .notes i (omega (arith, f .longer)) ∙ f .notes i l;
+  new-flags = λ i l m. ⊎-elim (λ h. g .new-flags i h m) (λ h. g .flags i h ∙ f .new-flags i l h) (le-or-lt (b .count) i);
+  new-notes = λ i l m. ⊎-elim (λ h. g .new-notes i h m) (λ h. g .notes i h ∙ f .new-notes i l h) (le-or-lt (b .count) i);
+}
+
 -- flags and notes
 pub carried-grown : (a b : Store) → Grown a b → Carried a b
 carried-grown a b g m l = ⊎-elim

@@ -7,7 +7,7 @@ ghost use Rattle.rewriting.specs.Terms.{letter, sign};
 ghost use Rattle.store.specs.Slots.{kind-of, tag-of, arity-of, flag-of, Fits-in, key-term};
 ghost use Rattle.store.specs.Chains.{Found};
 ghost use Rattle.store.specs.Stores.{Sound, Grown, Carried, Inside, Roots-kept, terms-up, terms-down};
-ghost use Rattle.store.specs.Making.{Opened, Interned, Kept-only, root-term, Placed, Made};
+ghost use Rattle.store.specs.Making.{Opened, Interned, Kept-only, root-term, Placed, Made, Parts-inside, Sign-shared, Reserved};
 use crate::chains::find;
 use crate::chains::push;
 use crate::collect::compact;
@@ -77,6 +77,7 @@ impl Store<'_> {
         requires { ⌜ Sound (now self) ⌝ ∗ ⌜ Fits-in (now key) (now self .count) ⌝ ∗ ⌜ flag-of (now key .head) ≡ false ⌝ }
         ensures sound { λ r. ⌜ Sound (now (self .exit)) ⌝ }
         ensures grown { λ r. ⌜ Grown (now (self .entry)) (now (self .exit)) ⌝ }
+        ensures few { λ r. ⌜ now (self .exit) .count ≤ now (self .entry) .count + 1 ⌝ }
         ensures place { λ r. ⌜ Interned (now (self .entry)) (now (self .exit))
             (key-term (now (now (self .entry) .words)) (now (key .entry))) r ⌝ }
     {
@@ -188,5 +189,33 @@ impl Store<'_> {
     {
         let from = roots.top - n;
         self.make(roots, sign_head(f, n), from, Order::Down)
+    }
+
+    // Sees to it that n more slots are below the limit, by a collection if need be; no if what the roots hold leaves no room for them.
+    pub fn reserve(&mut self, roots: &mut Roots, n: usize) -> bool
+        requires { ⌜ Sound (now self) ⌝ ∗ ⌜ Inside (now self) (now roots) ⌝ }
+        ensures { λ r. ⌜ Reserved (now (self .entry)) (now (roots .entry)) n (now (self .exit)) (now (roots .exit)) r ⌝ }
+    {
+        if n <= self.limit - self.count {
+            return true;
+        }
+        self.collect(roots);
+        if n <= self.limit - self.count {
+            return true;
+        }
+        self.limit = self.room;
+        n <= self.room - self.count
+    }
+
+    // The place of the sign f with the first n places as parts, below the limit.
+    pub fn share_sign(&mut self, f: u32, parts: [Place; 4], n: usize) -> Place
+        requires { ⌜ Sound (now self) ⌝ ∗ ⌜ n ≤ 4 ⌝ ∗ ⌜ Parts-inside (now self) parts n ⌝ ∗ ⌜ now self .count < now self .limit ⌝ }
+        ensures { λ r. ⌜ Sign-shared (now (self .entry)) f parts n (now (self .exit)) r ⌝ }
+    {
+        let key = Key {
+            head: sign_head(f, n),
+            parts: [parts[0].0, parts[1].0, parts[2].0, parts[3].0],
+        };
+        self.intern(&key).unwrap()
     }
 }

@@ -11,6 +11,7 @@ returns-in-Some c =
     record {
       sound = c .pre .0;
       grown = grown-same _;
+      few = omega arith;
       place = (f .0, holds-term (a .words .now) (a .count) (c .in-Some .i) (c .args .key .now) (c .pre .0 .shared .shape) (f .0) (f .1));
     }
 
@@ -38,5 +39,6 @@ returns c =
         new-flags = λ i l h. g .new-flags i l h ∙ c .pre .1 .1;
         new-notes = g .new-notes;
       };
+      few = omega arith;
       place = (omega arith, g .term);
     }
