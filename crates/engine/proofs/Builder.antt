@@ -20,7 +20,7 @@ use Rattle.store.specs.declared.types.Place.{Place}
 use Rattle.store.specs.Stores.{Sound, Grown}
 use Rattle.store.specs.Making.{Sign-shared}
 use Rattle.store.proofs.Placing.{grown-same, grown-then}
-use Rattle.store.proofs.Forests.{after, after-over, after-sizes}
+use Rattle.store.proofs.Forests.{after, after-over, after-sizes, none-left}
 use Rattle.engine.specs.declared.types.Built.{Built}
 use Rattle.engine.specs.declared.types.Bindings.{Bindings}
 use Rattle.engine.specs.Matching.{bound, put-in, All-inside, Bound, stacked, Places-inside}
@@ -176,11 +176,6 @@ pub record So-built (t : Term) (a : Store) (b : Bindings) (k : ℕ) (st : Store)
   pub few : st .count + k ≤ a .count + size t
   pub inside : Places-inside st (q .places) (q .len)
   pub terms : stacked st (q .places) (q .len) ≡ puts (put-in a b) (after k (and1 t none1))
-
-none-left : (ts : Terms) → sizes ts ≡ 0 → ts ≡ none1
-none-left none1 e = refl
-none-left (and1 (letter x) ts) e = absurd (omega arith)
-none-left (and1 (sign f us) ts) e = absurd (omega arith)
 
 pub none-built : (t : Term) (a : Store) (b : Bindings) (k : ℕ) (q : Built) → Sound a → k ≡ size t → q .len ≡ 0 → So-built t a b k a q
 none-built t a b k q s e z = record {
