@@ -1,6 +1,6 @@
 -- Building symbol by symbol, from the last to the first: what each turn needs and keeps.
 use mathlib.Core.Path.{_≡_, refl, sym, _∙_, ap, ap₂, subst}
-use mathlib.Core.List.{List, [], _∷_, _++_, append-nil}
+use mathlib.Core.List.{List, _∷_, _++_, append-nil}
 use mathlib.Core.Logic.{_⊎_, inl, inr}
 use mathlib.Core.Option.{some}
 use Prim.Native.Nat.{ℕ, zero, suc, _+_, _*_, _-_, _<_, _≤_}
@@ -17,14 +17,14 @@ use Rattle.books.specs.Reading.{Term-at}
 use Rattle.books.proofs.Forests.{behind, behind-rows}
 use Rattle.store.specs.declared.types.Store.{Store}
 use Rattle.store.specs.declared.types.Place.{Place}
-use Rattle.store.specs.Stores.{Sound, Grown, term-in}
+use Rattle.store.specs.Stores.{Sound, Grown}
 use Rattle.store.specs.Making.{Sign-shared}
 use Rattle.store.proofs.Placing.{grown-same, grown-then}
-use Rattle.store.proofs.Forests.{after, after-over, after-sizes}
+use Rattle.store.proofs.Forests.{after, after-over, after-sizes, none-left}
 use Rattle.engine.specs.declared.types.Built.{Built}
 use Rattle.engine.specs.declared.types.Bindings.{Bindings}
 use Rattle.engine.specs.Matching.{bound, put-in, All-inside, Bound, stacked, Places-inside}
-use Rattle.engine.specs.Building.{Put-on, Taken, All-bound, Parts-built, Buildable, Symbol-built, Instance-built}
+use Rattle.engine.specs.Building.{Put-on, Taken, All-bound, Buildable, Symbol-built, Instance-built}
 use Rattle.books.proofs.Bookish.{Parts-told}
 use Rattle.engine.proofs.Pendings.{zero-place}
 use Rattle.engine.proofs.Builts.{stacked-count, inside-grown, on-top, on-inside, taken-inside, sign-on-top, put-in-bound, put-in-grown}
@@ -176,11 +176,6 @@ pub record So-built (t : Term) (a : Store) (b : Bindings) (k : ℕ) (st : Store)
   pub few : st .count + k ≤ a .count + size t
   pub inside : Places-inside st (q .places) (q .len)
   pub terms : stacked st (q .places) (q .len) ≡ puts (put-in a b) (after k (and1 t none1))
-
-none-left : (ts : Terms) → sizes ts ≡ 0 → ts ≡ none1
-none-left none1 e = refl
-none-left (and1 (letter x) ts) e = absurd (omega arith)
-none-left (and1 (sign f us) ts) e = absurd (omega arith)
 
 pub none-built : (t : Term) (a : Store) (b : Bindings) (k : ℕ) (q : Built) → Sound a → k ≡ size t → q .len ≡ 0 → So-built t a b k a q
 none-built t a b k q s e z = record {

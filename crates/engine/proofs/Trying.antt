@@ -1,13 +1,12 @@
 -- Rules tried at the top of a term: where the top sign of a left side stands, and what the rules that failed say together.
-use mathlib.Core.Path.{_≡_, refl, sym, _∙_, ap, subst}
+use mathlib.Core.Path.{_≡_, refl, sym, _∙_, ap}
 use mathlib.Core.List.{List, _∷_, _++_}
-use mathlib.Core.Option.{some}
 use Prim.Native.Nat.{ℕ, _+_, _<_, _≤_}
 use native.Mathlib.Omega.{arith}
 use lib.ListN.{length, getD, drop}
-use Rattle.rewriting.specs.Terms.{nth, Term, letter, sign, Terms, put, puts, In}
+use Rattle.rewriting.specs.Terms.{nth, Term, letter, sign, Terms, put, puts}
 use Rattle.rewriting.specs.Rules.{Eq}
-use Rattle.rewriting.specs.Order.{Rank, rank, Greater, by-part, by-sign, by-order, All-down}
+use Rattle.rewriting.specs.Order.{Rank, rank, Greater, by-part, by-sign, by-order}
 use Rattle.rewriting.specs.Machine.{Still}
 use Rattle.rewriting.proofs.Ordering.{greater-letters}
 use Rattle.books.specs.Rows.{row, rows}
@@ -17,7 +16,7 @@ use Rattle.store.specs.declared.types.Place.{Place}
 use Rattle.store.specs.Stores.{term-in}
 use Rattle.books.specs.declared.row.Book.{Book}
 use Rattle.engine.specs.declared.types.Bindings.{Bindings}
-use Rattle.books.specs.Books.{told, Sound-book, blank, rule-in, Rule-at}
+use Rattle.books.specs.Books.{told, blank, rule-in, Rule-at}
 use Rattle.engine.specs.Matching.{put-in, Instance}
 use Rattle.engine.specs.Building.{All-bound, Instance-built}
 use Rattle.engine.specs.Rewriting.{Rewritable, Top-sign, By-rule}

@@ -1,6 +1,6 @@
 // The terms that are built and not yet parts of another.
 ghost use mathlib.Core.Path.{_≡_};
-ghost use Prim.Native.Nat.{ℕ, _+_, _-_, _<_, _≤_};
+ghost use Prim.Native.Nat.{_-_, _<_, _≤_};
 ghost use Rattle.engine.specs.Building.{Taken};
 ghost use Rattle.engine.specs.Building.{Put-on as PutOn};
 use crate::types::Built;

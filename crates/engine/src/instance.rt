@@ -1,6 +1,5 @@
 // Building the right side of a rule, with what is put for its letters.
-ghost use mathlib.Core.Path.{_≡_};
-ghost use Prim.Native.Nat.{ℕ, _+_, _<_, _≤_};
+ghost use Prim.Native.Nat.{_+_, _<_, _≤_};
 ghost use lib.ListN.{length};
 ghost use Rattle.store.specs.Stores.{Sound};
 ghost use Rattle.books.specs.Reading.{Term-at as TermAt};

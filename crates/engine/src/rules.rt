@@ -1,6 +1,5 @@
 // Rewriting at the top of a term, by the first rule that matches.
-ghost use mathlib.Core.Path.{_≡_};
-ghost use Prim.Native.Nat.{ℕ, _+_, _<_, _≤_};
+ghost use Prim.Native.Nat.{_+_, _<_, _≤_};
 ghost use lib.ListN.{length};
 ghost use Rattle.store.specs.Stores.{term-in as termIn};
 ghost use Rattle.books.specs.Books.{told};

@@ -35,6 +35,12 @@ pub after-sizes : (k : ℕ) (ts : Terms) → k ≤ sizes ts → sizes (after k t
 after-sizes zero ts l = omega arith
 after-sizes (suc k) ts l = let e = after-sizes k ts (omega arith) in let d = behind-sizes (after k ts) (omega arith) in omega arith
 
+-- behind the last symbol there is none
+pub none-left : (ts : Terms) → sizes ts ≡ 0 → ts ≡ none1
+none-left none1 e = refl
+none-left (and1 (letter x) ts) e = absurd (omega arith)
+none-left (and1 (sign f us) ts) e = absurd (omega arith)
+
 -- each of the terms is a part of t
 abbrev pub Each-part : Term → Terms → Type 0
 Each-part t none1 = Unit {0}

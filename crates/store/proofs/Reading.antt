@@ -29,7 +29,7 @@ use Rattle.store.specs.Transfers.{Row-of, takes, symbol-term, Readable, Read}
 use Rattle.store.proofs.Cases.{le-or-lt}
 use Rattle.store.proofs.Placing.{carried-then, carried-grown, grown-same}
 use Rattle.store.proofs.Forests.{after, after-rows, after-over, after-sizes, after-parts, down-same, down-count, down-one, down-split}
-use Rattle.store.proofs.Forests.{down-part}
+use Rattle.store.proofs.Forests.{none-left, down-part}
 
 -- the terms of t from symbol k on
 abbrev forest : ℕ → Term → Terms
@@ -132,11 +132,6 @@ turn ps ws a q t n b r few w p l s =
     turn-at ps ws a q t (n - 1) b r few w (omega (arith, symbols w)) (subst (λ (i : ℕ). So-far a q t i b r) e s)
 
 -- before the first symbol that is read
-none-left : (ts : Terms) → sizes ts ≡ 0 → ts ≡ none1
-none-left none1 e = refl
-none-left (and1 (letter x) ts) e = absurd (omega arith)
-none-left (and1 (sign f us) ts) e = absurd (omega arith)
-
 pub so-far-none : (a : Store) (q : Roots) (t : Term) (k : ℕ) → Sound a → Inside a q → k ≡ size t → So-far a q t k a q
 so-far-none a q t k s i e = record {
   sound = s;

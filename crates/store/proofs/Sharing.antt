@@ -5,7 +5,7 @@ use mathlib.Core.List.{List, [], _∷_}
 use Prim.Native.Nat.{ℕ, zero, suc, _+_, _-_, _<_, _≤_}
 use native.Mathlib.Omega.{arith}
 use lib.Dec.{leb}
-use lib.ListN.{length, getD}
+use lib.ListN.{getD}
 use borrow.Author.Tests.{leb-true, leb-false}
 use Rattle.std.specs.declared.option.Option.{Option}
 use Rattle.std.specs.declared.option.Option.the-variants.{Some}
@@ -14,7 +14,7 @@ use Rattle.store.specs.declared.types.Store.{Store}
 use Rattle.store.specs.declared.types.Roots.{Roots}
 use Rattle.store.specs.declared.types.Place.{Place}
 use Rattle.store.specs.Slots.{kind-of, tag-of, symbol-of, node, parts-by}
-use Rattle.store.specs.Stores.{Sound, term-in, new, old, Carried, parts-held, Inside, Roots-kept}
+use Rattle.store.specs.Stores.{Sound, term-in, new, old, Carried, Inside, Roots-kept}
 use Rattle.store.specs.Making.{Interned, Kept-only, terms-at, Space, Reserved}
 use Rattle.store.proofs.Placing.{grown-same, carried-grown, roots-same}
 use Rattle.store.proofs.Decoding.{parts-by-same}

@@ -1,8 +1,7 @@
 -- From no symbol to the whole right side.
 use mathlib.Core.Path.{_≡_, subst}
-use Prim.Native.Nat.{ℕ, _+_, _*_, _/_, _-_, _<_, _≤_}
+use Prim.Native.Nat.{ℕ}
 use native.Mathlib.Omega.{arith}
-use Rattle.rewriting.specs.Terms.{size}
 use Rattle.books.specs.Books.{told, rule-in}
 use Rattle.books.proofs.Bookish.{rule-sides, parts-told}
 use Rattle.engine.proofs.Builder.{So-built, none-built, turn, built-more, built-all}

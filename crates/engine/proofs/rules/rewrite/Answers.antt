@@ -1,5 +1,4 @@
 -- The rule that was found is used.
-use native.Mathlib.Omega.{arith}
 use Rattle.engine.proofs.Trying.{right-bound, by-this-rule}
 use Rattle.engine.proofs.rules.rewrite.Needs as need
 

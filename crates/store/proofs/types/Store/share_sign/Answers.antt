@@ -1,5 +1,4 @@
 -- The key is the sign's, and there is space for it.
-use native.Mathlib.Omega.{arith}
 use Rattle.store.proofs.Sharing.{sign-of, found-at}
 use Rattle.store.proofs.types.Store.share_sign.Needs as need
 
