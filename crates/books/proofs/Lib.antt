@@ -5,6 +5,7 @@ pub mod Elements
 pub mod Scanning
 pub mod Heads
 pub mod Sided
+pub mod Bookish
 pub mod Unique
 pub mod Siding
 pub mod Building

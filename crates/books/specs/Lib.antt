@@ -2,4 +2,5 @@
 pub mod Rows
 pub mod Reading
 pub mod Layouts
+pub mod Books
 pub mod Theorems

@@ -4,11 +4,14 @@ ghost use Rattle.books.specs.Theorems.{Sum-row as SumRow};
 
 mod book;
 pub mod layout;
+pub mod row;
 pub mod ways;
 pub mod words;
 
 pub use book::read_book;
 pub use layout::Layout;
+pub use row::Book;
+pub use row::Sides;
 pub use ways::are_ways;
 pub use ways::is_term;
 

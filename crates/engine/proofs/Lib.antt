@@ -1,4 +1,6 @@
 -- Proofs on rewriting over the store.
-pub mod Bookish
 pub mod Pendings
 pub mod Matcher
+pub mod Builts
+pub mod Builder
+pub mod Trying

@@ -136,13 +136,16 @@ module _ (ps ws : List ℕ) (to : ℕ) (l t : Term) (st : Store) (a : ℕ) (q : 
     place-inside : (us : Terms) → Matching-with ps ws to l t st a q b us → p .0 < st .count
     place-inside us m = subst (λ (x : Place). x .0 < st .count) (sym (pop .place)) (m .inside (r .len) (omega (arith, pop .len)))
 
-    both-fit : (us : Terms) → Matching-with ps ws to l t st a q b us → All-over Any-letter ps (and1 (term-in st (p .0)) (stacked st (r .places) (r .len)))
+    both-fit : (us : Terms) → Matching-with ps ws to l t st a q b us →
+        All-over Any-letter ps (and1 (term-in st (p .0)) (stacked st (r .places) (r .len)))
     both-fit us m = subst (All-over Any-letter ps) pending-first (m .fit)
 
     -- what is put makes the first pattern the next term, and the others the other terms
     first-is : (s : ℕ → Term) (u : Term) (us : Terms) → puts s (and1 u us) ≡ stacked st (q .places) (q .len) →
         (put s u ≡ term-in st (p .0)) × (puts s us ≡ stacked st (r .places) (r .len))
-    first-is s u us e = let d : and1 (put s u) (puts s us) ≡ and1 (term-in st (p .0)) (stacked st (r .places) (r .len)) = e ∙ pending-first in (cc, cc)
+    first-is s u us e =
+        let d : and1 (put s u) (puts s us) ≡ and1 (term-in st (p .0)) (stacked st (r .places) (r .len)) = e ∙ pending-first in
+        (cc, cc)
 
     first-of : (s : ℕ → Term) (u : Term) (us : Terms) → put s u ≡ term-in st (p .0) → puts s us ≡ stacked st (r .places) (r .len) →
         puts s (and1 u us) ≡ stacked st (q .places) (q .len)
@@ -214,7 +217,8 @@ module _ (ps ws : List ℕ) (to : ℕ) (l t : Term) (st : Store) (a : ℕ) (q : 
       long = long-next (sign f vs) us m;
       counted = omega (arith, m .counted, pop .len, d .len, count-glue vs us, counts);
       inside = d .inside;
-      fit = subst (All-over Any-letter ps) (sym (d .terms)) (over-glue Any-letter ps ts (stacked st (r .places) (r .len)) (fit-parts .1) (both-fit (and1 (sign f vs) us) m .1));
+      fit = subst (All-over Any-letter ps) (sym (d .terms))
+          (over-glue Any-letter ps ts (stacked st (r .places) (r .len)) (fit-parts .1) (both-fit (and1 (sign f vs) us) m .1));
       full = m .full;
       bound-inside = m .bound-inside;
       enough = λ s h g. (let k = split s g in m .enough s h (first-of s (sign f vs) us (ap (sign f) (k .0) ∙ sym e) (k .1)));
@@ -228,7 +232,8 @@ module _ (ps ws : List ℕ) (to : ℕ) (l t : Term) (st : Store) (a : ℕ) (q : 
         fit-parts : Over Any-letter ps (sign f ts)
         fit-parts = subst (Over Any-letter ps) e (both-fit (and1 (sign f vs) us) m .0)
 
-        split : (s : ℕ → Term) → puts s (glue vs us) ≡ stacked st (r2 .places) (r2 .len) → (puts s vs ≡ ts) × (puts s us ≡ stacked st (r .places) (r .len))
+        split : (s : ℕ → Term) → puts s (glue vs us) ≡ stacked st (r2 .places) (r2 .len) →
+            (puts s vs ≡ ts) × (puts s us ≡ stacked st (r .places) (r .len))
         split s g = glue-apart (puts s vs) ts (puts s us) (stacked st (r .places) (r .len)) (count-puts s vs ∙ counts)
             (sym (puts-glue s vs us) ∙ (g ∙ d .terms))
 

@@ -28,13 +28,15 @@ module _ (st : Store) where
   stacked-set ps n zero q h = refl
   stacked-set ps n (suc m) q h =
       let ne : m ≢ n = omega arith in
-      ap₂ (λ (r : Place) (ts : Terms). and1 (term-in st (r .0)) ts) (getD-set-other ps n m q zero-place ne) (stacked-set ps n m q (omega arith))
+      ap₂ (λ (r : Place) (ts : Terms). and1 (term-in st (r .0)) ts) (getD-set-other ps n m q zero-place ne)
+      (stacked-set ps n m q (omega arith))
 
   pub stacked-more : (ps : List Place) (n : ℕ) (q : Place) → n < length ps →
       stacked st (set ps n q) (n + 1) ≡ and1 (term-in st (q .0)) (stacked st ps n)
   stacked-more ps n q h =
       ap (λ (k : ℕ). stacked st (set ps n q) k) (add-one n)
-      ∙ ap₂ (λ (r : Place) (ts : Terms). and1 (term-in st (r .0)) ts) (getD-set-same ps n q zero-place h) (stacked-set ps n n q (omega arith))
+      ∙ ap₂ (λ (r : Place) (ts : Terms). and1 (term-in st (r .0)) ts) (getD-set-same ps n q zero-place h)
+      (stacked-set ps n n q (omega arith))
 
   pub inside-more : (ps : List Place) (n : ℕ) (q : Place) → n < length ps → Places-inside st ps n → q .0 < st .count →
       Places-inside st (set ps n q) (n + 1)
@@ -68,7 +70,8 @@ module _ (st : Store) where
       ap (parts-by (λ j. term-in st j) (λ m. part-in st i m) (k - 1)) e
       ∙ ap (λ (m : ℕ). and1 (term-in st (part-in st i (k - 1))) (parts-by (λ j. term-in st j) (λ m. part-in st i m) m (n - k))) d
 
-  pub parts-more : (q r : Pending) (i k n : ℕ) (p : Place) → 0 < k → k ≤ n → p .0 ≡ part-in st i (k - 1) → p .0 < st .count → r .len < length (r .places) →
+  pub parts-more : (q r : Pending) (i k n : ℕ) (p : Place) → 0 < k → k ≤ n → p .0 ≡ part-in st i (k - 1) → p .0 < st .count →
+      r .len < length (r .places) →
       Pushed st q (parts-by (λ j. term-in st j) (λ m. part-in st i m) k (n - k)) r →
       Pushed st q (parts-by (λ j. term-in st j) (λ m. part-in st i m) (k - 1) (n - (k - 1)))
       (record { places = set (r .places) (r .len) p; len = r .len + 1 })

@@ -1,3 +1,4 @@
 -- Rewriting over the store: the definitions that the contracts cite.
-pub mod Books
 pub mod Matching
+pub mod Building
+pub mod Rewriting

@@ -89,7 +89,8 @@ Parts-pending st p f q r false = (us : Terms) → term-in st (p .0) ≡ sign f u
 
 -- where matching the pattern l with the term t has come to: the words from place a on are these patterns, for which the pending
 -- terms are wanted; what is put for letters makes l the term t exactly if it is as the bindings say and makes the patterns these terms
-pub record Matching-with (ps ws : List ℕ) (to : ℕ) (l t : Term) (st : Store) (a : ℕ) (q : Pending) (b : Bindings) (us : Terms) : Type 0 where
+pub record Matching-with (ps ws : List ℕ) (to : ℕ) (l t : Term) (st : Store) (a : ℕ) (q : Pending) (b : Bindings) (us : Terms)
+    : Type 0 where
   pub over : All-over Small-letter ps us
   pub written : drop a ws ≡ rows us ++ drop to ws
   pub long : a + 2 * sizes us ≡ to

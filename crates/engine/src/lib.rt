@@ -1,6 +1,8 @@
 // Rewriting over the store of shared terms.
 mod bindings;
-mod book;
+mod built;
+mod instance;
 mod matching;
 mod pending;
+pub mod rules;
 pub mod types;

@@ -1,21 +1,5 @@
-// The types: a book by its words, what is put for letters, and the places that are still to be matched.
-use books::Layout;
+// The types: what is put for letters, and the places that are still to be matched or were built.
 use store::Place;
-
-// A book's row, and where its sides stand there.
-#[derive(Drop)]
-pub struct Book<'a> {
-    pub words: &'a [u32],
-    pub layout: Layout,
-}
-
-// Where a rule's sides stand in the words: the left one up to where the right one starts.
-#[derive(Clone, Copy)]
-pub struct Sides {
-    pub left: usize,
-    pub right: usize,
-    pub end: usize,
-}
 
 // What is put for letters: for each of 32 a place, or nothing yet.
 #[derive(Clone, Copy)]
@@ -27,5 +11,12 @@ pub struct Bindings {
 #[derive(Clone, Copy)]
 pub struct Pending {
     pub places: [Place; 36],
+    pub len: usize,
+}
+
+// The places of terms that are built and not yet parts of another, the next one last: as many as a side has symbols.
+#[derive(Clone, Copy)]
+pub struct Built {
+    pub places: [Place; 32],
     pub len: usize,
 }

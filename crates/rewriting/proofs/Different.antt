@@ -169,6 +169,11 @@ part-of-listed g (suc n) k v l p = ⊎-elim
     (λ h. of-later (part-of-listed g n k v h p))
     (eq-or-lt-of-le (let z : k ≤ n = omega arith in z))
 
+pub part-in-listed : (g : ℕ → Term) (n : ℕ) (v : Term) → Part-of v (listed g n) → (k : ℕ) × (k < n) × Part v (g k)
+part-in-listed g zero v p = elim p [ ]
+part-in-listed g (suc n) v (of-first p) = (n, omega arith, p)
+part-in-listed g (suc n) v (of-later p) = let h = part-in-listed g n v p in (h .0, omega (arith, h .1), h .2)
+
 pub listed-same : (f g : ℕ → Term) (n : ℕ) → ((k : ℕ) → k < n → f k ≡ g k) → listed f n ≡ listed g n
 listed-same f g zero h = refl
 listed-same f g (suc n) h = let p = h n (omega arith) in let q = listed-same f g n (λ k l. h k (omega arith)) in cc

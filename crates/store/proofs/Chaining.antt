@@ -2,7 +2,7 @@
 use mathlib.Core.Path.{_≡_, refl, sym, _∙_, ap, subst}
 use mathlib.Core.Logic.{_⊎_, ⊎-elim}
 use mathlib.Core.List.{List}
-use Prim.Native.Nat.{ℕ, zero, suc, _+_, _-_, _*_, _/_, _<_, _≤_}
+use Prim.Native.Nat.{ℕ, zero, suc, _+_, _-_, _/_, _<_, _≤_}
 use native.Mathlib.Omega.{arith}
 use native.Mathlib.Nat.{eq-or-lt-of-le}
 use native.Mathlib.Numerals.{add-one}
@@ -31,7 +31,8 @@ bucket-same mask k j p q e h =
     ∙ ap (λ (x : ℕ). bitAnd (hash-of x q (arity-of x) / 4294967296) mask) e
 
 holds-bucket : (mask : ℕ) (ws : List ℕ) (j : ℕ) (key : Key) → Holds ws j key → bucket-at mask ws j ≡ key-bucket mask key
-holds-bucket mask ws j key o = bucket-same mask (kind-at ws j) (kind-of (key .head)) (λ k. part-at ws j k) (λ k. getD (key .parts) k 0) (o .kind)
+holds-bucket mask ws j key o = bucket-same mask (kind-at ws j) (kind-of (key .head)) (λ k. part-at ws j k) (λ k. getD (key .parts) k 0)
+    (o .kind)
     (λ m l. let e : tag-of (kind-at ws j) ≡ tag-of (kind-of (key .head)) = ap tag-of (o .kind) in o .parts m (omega arith))
 
 -- a search along a chain, from its last slot on

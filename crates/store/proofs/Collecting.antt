@@ -1,7 +1,7 @@
 -- Collecting: marked, with the buckets emptied, slid down, and the notes cleared.
 use mathlib.Core.Path.{_≡_, sym, _∙_, ap, subst}
 use mathlib.Core.List.{List}
-use Prim.Native.Nat.{ℕ, _+_, _-_, _<_, _≤_}
+use Prim.Native.Nat.{ℕ, _+_, _-_, _<_}
 use native.Mathlib.Omega.{arith}
 use lib.ListN.{length}
 use Rattle.rewriting.specs.Terms.{Term}
@@ -11,7 +11,7 @@ use Rattle.rewriting.proofs.Different.{different-most, part-of-listed}
 use Rattle.store.specs.Cells.{cell, Cleared}
 use Rattle.store.specs.Slots.{tag-of, kind-of, flag-of, kind-at, part-at, note-at, term-of, Shared}
 use Rattle.store.specs.Chains.{Chains}
-use Rattle.store.specs.Marks.{Marked, Closed, Roots-marked}
+use Rattle.store.specs.Marks.{Closed, Roots-marked}
 use Rattle.store.specs.Slides.{Moved, Slid, Collected}
 use Rattle.store.proofs.Decoding.{alike, term-alike, shared-alike}
 use Rattle.store.proofs.Chaining.{chains-kept}
@@ -28,22 +28,26 @@ module _ (vs us ws : List ℕ) (c e : ℕ) (q : ℕ → ℕ) (t : ℕ) (w : Shar
   kept : (i : ℕ) → i < c → term-of ws i ≡ term-of vs i
   kept = term-alike vs ws c (w .shape) (alike vs ws c nodes)
 
-  pub ready-shared : Shared ws c
+  ready-shared : Shared ws c
   ready-shared = shared-alike vs ws c w long-w (alike vs ws c nodes)
 
-  pub ready-closed : Closed ws c
+  ready-closed : Closed ws c
   ready-closed i k l h b y = let u = ready-shared .shape .tags i l in
       let tag : tag-of (kind-at ws i) ≡ tag-of (kind-at us i) = ap tag-of (ap kind-of (z .rest i 0 (omega arith) (λ a n. omega arith))) in
       let part : part-at ws i k ≡ part-at us i k = z .rest i (k + 1) (omega arith) (λ a n. omega arith) in
       m .closed i k l (λ x. h (mark-is i ∙ x)) (omega arith) (ap (λ (x : ℕ). note-at us x) (sym part) ∙ sym (mark-is _) ∙ y)
 
+  pub ready : Shared ws c × Closed ws c
+  ready = (ready-shared, ready-closed)
+
   -- slid down in xs
-  module _ (xs : List ℕ) (n : ℕ) (low : (k : ℕ) → k < t → q k < c) (s : Slid ws c xs n) where
+  module _ (mask : ℕ) (xs : List ℕ) (n : ℕ) (low : (k : ℕ) → k < t → q k < c) (s : Slid ws c xs n) (ch : Chains mask xs n) where
     pub moved : (k : ℕ) → k < t → Moved ws (q k) xs n (note-at xs (q k))
     moved k l = s .to _ (low k l) (λ y. m .roots k l (sym (mark-is _) ∙ y))
 
     -- the notes cleared in ys
-    module _ (ys : List ℕ) (r : ℕ → ℕ) (long-y : length ys ≡ length xs) (zy : Cleared xs n 7 ys) (v : (k : ℕ) → k < t → r k ≡ note-at xs (q k) - 1) where
+    module _ (ys : List ℕ) (r : ℕ → ℕ) (long-y : length ys ≡ length xs) (zy : Cleared xs n 7 ys)
+        (v : (k : ℕ) → k < t → r k ≡ note-at xs (q k) - 1) where
       same : (j k : ℕ) → k < 7 → cell ys j k ≡ cell xs j k
       same j k h = zy .rest j k (omega arith) (λ a n. omega arith)
 
@@ -62,8 +66,8 @@ module _ (vs us ws : List ℕ) (c e : ℕ) (q : ℕ → ℕ) (t : ℕ) (w : Shar
           let h = m .only (f .of) (f .old) (λ y. f .marked (mark-is _ ∙ y)) in
           (h .0, h .1, subst (λ (x : Term). Part x (term-of vs (q (h .0)))) (sym (kept-y i l ∙ f .term ∙ kept (f .of) (f .old))) (h .2))
 
-      pub collected : Collected vs c q t ys n r
-      collected = record {
+      kept-all : Collected vs c q t ys n r
+      kept-all = record {
         shared = shared-y;
         less = s .less;
         inside = inside-y;
@@ -80,5 +84,5 @@ module _ (vs us ws : List ℕ) (c e : ℕ) (q : ℕ → ℕ) (t : ℕ) (w : Shar
         notes = zy .is;
       }
 
-      pub collected-chains : (mask : ℕ) → Chains mask xs n → Chains mask ys n
-      collected-chains mask ch = chains-kept mask xs ys n ch (s .shared .shape) long-y same
+      pub collected : Collected vs c q t ys n r × Chains mask ys n
+      collected = (kept-all, chains-kept mask xs ys n ch (s .shared .shape) long-y same)

@@ -5,7 +5,7 @@ use mathlib.Core.List.{List}
 use Prim.Native.Nat.{ℕ, zero, suc, _+_, _-_, _*_, _<_, _≤_}
 use native.Mathlib.Omega.{arith}
 use lib.ListN.{length, getD}
-use Rattle.rewriting.specs.Terms.{Term, letter, sign, Terms, none1, and1}
+use Rattle.rewriting.specs.Terms.{Term, sign, and1}
 use Rattle.store.specs.declared.types.Key.{Key}
 use Rattle.store.specs.Cells.{cell}
 use Rattle.store.specs.Slots.{symbol-of, tag-of, arity-of, kind-of, kind-at, arity-at, part-at, parts-by, node-by, node, term-by, term-of}
@@ -13,16 +13,16 @@ use Rattle.store.specs.Slots.{Shape, Shared, Fits-in, key-term, Added, Alike}
 use Rattle.store.proofs.Cases.{last-or-below, below-next}
 
 -- a node of the same kind and the same parts' terms is the same
-parts-same : (d e : ℕ → Term) (p q : ℕ → ℕ) (k n : ℕ) → ((m : ℕ) → k ≤ m → m < k + n → d (p m) ≡ e (q m)) →
+pub parts-by-same : (d e : ℕ → Term) (p q : ℕ → ℕ) (k n : ℕ) → ((m : ℕ) → k ≤ m → m < k + n → d (p m) ≡ e (q m)) →
     parts-by d p k n ≡ parts-by e q k n
-parts-same d e p q k zero h = refl
-parts-same d e p q k (suc n) h =
+parts-by-same d e p q k zero h = refl
+parts-by-same d e p q k (suc n) h =
     ap (λ (t : Term). and1 t (parts-by d p (k + 1) n)) (h k (omega arith) (omega arith))
-    ∙ ap (and1 (e (q k))) (parts-same d e p q (k + 1) n (λ m a b. h m (omega arith) (omega arith)))
+    ∙ ap (and1 (e (q k))) (parts-by-same d e p q (k + 1) n (λ m a b. h m (omega arith) (omega arith)))
 
 node-by-same : (d e : ℕ → Term) (p q : ℕ → ℕ) (s n : ℕ) → ((m : ℕ) → m < n - 1 → d (p m) ≡ e (q m)) → node-by d p s n ≡ node-by e q s n
 node-by-same d e p q s zero h = refl
-node-by-same d e p q s (suc n) h = ap (sign s) (parts-same d e p q 0 n (λ m a b. h m (omega arith)))
+node-by-same d e p q s (suc n) h = ap (sign s) (parts-by-same d e p q 0 n (λ m a b. h m (omega arith)))
 
 pub node-same : (d e : ℕ → Term) (i j : ℕ) (p q : ℕ → ℕ) → i ≡ j → ((m : ℕ) → m < arity-of i → d (p m) ≡ e (q m)) →
     node d i p ≡ node e j q
@@ -50,6 +50,13 @@ term-is ws c i w l =
     node-same (term-by i K P) (λ j. term-by (suc j) K P j) (K i) (K i) (P i) (P i) refl
     (λ m a. let p : P i m < i = w .below i m l a in
     layers K K P P c (w .below) (λ i l. refl) (λ i k l a. refl) i (suc (P i m)) (P i m) (omega arith) (omega arith) (omega arith))
+
+-- which is a key's term where kind and parts' terms are the key's
+pub slot-key : (vs ws : List ℕ) (i : ℕ) (key : Key) → kind-at ws i ≡ kind-of (key .head) →
+    ((m : ℕ) → m < arity-at ws i → term-of ws (part-at ws i m) ≡ term-of vs (getD (key .parts) m 0)) →
+    node (λ j. term-of ws j) (kind-at ws i) (λ k. part-at ws i k) ≡ key-term vs key
+slot-key vs ws i key e h = node-same (λ j. term-of ws j) (λ j. term-of vs j) (kind-at ws i) (kind-of (key .head))
+    (λ k. part-at ws i k) (λ k. getD (key .parts) k 0) e h
 
 -- slots with the same kinds and parts
 pub alike : (vs ws : List ℕ) (c : ℕ) → ((j k : ℕ) → j < c → k < 5 → cell ws j k ≡ cell vs j k) → Alike vs ws c
@@ -109,8 +116,7 @@ module _ (vs ws : List ℕ) (n : ℕ) (key : Key) (w : Shape vs n) (r : Added vs
 
   pub added-is : term-of ws n ≡ key-term vs key
   added-is = term-is ws (n + 1) n shape-added (omega arith)
-      ∙ node-same (λ j. term-of ws j) (λ j. term-of vs j) (kind-at ws n) (kind-of (key .head)) (λ k. part-at ws n k) (λ k. getD (key .parts) k 0) kind
-      (λ m a. let t = tag in let u = f .tags in
+      ∙ slot-key vs ws n key kind (λ m a. let t = tag in let u = f .tags in
       ap (λ (x : ℕ). term-of ws x) (r .parts m (omega arith)) ∙ stays (getD (key .parts) m 0) (f .below m (omega arith)))
 
   -- for a term that was not there

@@ -1,12 +1,10 @@
 -- What a collection keeps of a store.
-use mathlib.Core.Path.{_≡_, refl}
-use mathlib.Core.List.{List}
-use Prim.Native.Nat.{ℕ, _+_, _*_, _<_, _≤_}
+use mathlib.Core.Path.{_≡_}
+use Prim.Native.Nat.{_<_, _≤_}
 use native.Mathlib.Omega.{arith}
 use lib.ListN.{length}
 use Rattle.store.specs.declared.types.Store.{Store}
 use Rattle.store.specs.declared.types.Roots.{Roots}
-use Rattle.store.specs.Slots.{note-at}
 use Rattle.store.specs.Chains.{Chains}
 use Rattle.store.specs.Roots.{root-at}
 use Rattle.store.specs.Slides.{Collected}
@@ -15,7 +13,8 @@ use Rattle.store.specs.Making.{Kept-only}
 
 -- a, with the roots q, is collected to b, with the roots r
 pub kept-only : (a : Store) (q : Roots) (b : Store) (r : Roots) → Sound a → Inside a q →
-    Collected (a .words .now) (a .count) (λ k. root-at (q .cells .now) k) (q .top) (b .words .now) (b .count) (λ k. root-at (r .cells .now) k) →
+    Collected (a .words .now) (a .count) (λ k. root-at (q .cells .now) k) (q .top) (b .words .now) (b .count)
+    (λ k. root-at (r .cells .now) k) →
     Chains (b .mask) (b .words .now) (b .count) → b .room ≡ a .room → length (b .words .now) ≡ length (a .words .now) →
     r .top ≡ q .top → length (r .cells .now) ≡ length (q .cells .now) →
     b .count ≤ b .limit → b .limit ≤ b .room → 0 < b .limit → (b .limit ≤ b .count → b .limit ≡ b .room) → Kept-only a q b r

@@ -9,4 +9,8 @@ pub mod Sliding
 pub mod Collecting
 pub mod Viewing
 pub mod Placing
+pub mod Sharing
 pub mod Keeping
+pub mod Forests
+pub mod Reading
+pub mod Emitting

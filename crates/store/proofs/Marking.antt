@@ -2,15 +2,15 @@
 use mathlib.Core.Path.{_≡_, refl, sym, _∙_, ap, subst}
 use mathlib.Core.Logic.{_⊎_, ⊎-elim}
 use mathlib.Core.List.{List}
-use Prim.Native.Nat.{ℕ, zero, suc, _+_, _-_, _*_, _<_, _≤_}
+use Prim.Native.Nat.{ℕ, zero, suc, _+_, _-_, _<_, _≤_}
 use native.Mathlib.Omega.{arith}
 use native.Mathlib.Nat.{eq-or-lt-of-le}
 use lib.ListN.{length}
 use Rattle.rewriting.specs.Terms.{Term}
 use Rattle.rewriting.specs.Rules.{Part, itself, in-part, Parts, in-this, in-later}
 use Rattle.rewriting.proofs.Different.{part-trans}
-use Rattle.store.specs.Cells.{cell, Cell-put, Cleared}
-use Rattle.store.specs.Slots.{symbol-of, tag-of, arity-of, kind-of, kind-at, arity-at, part-at, note-at}
+use Rattle.store.specs.Cells.{Cell-put, Cleared}
+use Rattle.store.specs.Slots.{symbol-of, tag-of, kind-of, kind-at, arity-at, part-at, note-at}
 use Rattle.store.specs.Slots.{parts-by, node-by, node, term-of, Shape, Same-nodes}
 use Rattle.store.specs.Marks.{Marked, Reached, from-mark, by-part, Marked-too, All-marked, Roots-marked}
 use Rattle.store.proofs.Cases.{eq-or, last-or-below}
@@ -26,7 +26,8 @@ too-start p vs = record {
   only = λ j h n. absurd (n h);
 }
 
-pub too-more : (p : ℕ → ℕ) (k q : ℕ) (us vs ws : List ℕ) → Marked-too p k us vs → q ≡ p k → Cell-put vs q 7 1 ws → Marked-too p (k + 1) us ws
+pub too-more : (p : ℕ → ℕ) (k q : ℕ) (us vs ws : List ℕ) → Marked-too p k us vs → q ≡ p k → Cell-put vs q 7 1 ws →
+    Marked-too p (k + 1) us ws
 too-more p k q us vs ws m e s =
     let here : Marked ws q = (λ z. let one : note-at ws q ≡ 1 = s .is in omega arith) in
     let elsewhere : (j : ℕ) → (j ≡ q → ⊥) → note-at ws j ≡ note-at vs j = λ j n. s .rest j 7 (omega arith) (λ a b. n a) in

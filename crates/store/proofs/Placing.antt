@@ -1,31 +1,31 @@
 -- A store with one more slot; flags and notes carried on; roots kept; a root put in the place of others.
-use mathlib.Core.Path.{_≡_, refl, sym, _∙_, ap, subst}
+use mathlib.Core.Path.{_≡_, refl, _∙_, ap, subst}
 use mathlib.Core.Logic.{_⊎_, ⊎-elim}
-use mathlib.Core.Bool.{false}
 use mathlib.Core.List.{List}
-use Prim.Native.Nat.{ℕ, _+_, _-_, _*_, _<_, _≤_}
+use Prim.Native.Nat.{ℕ, zero, suc, _+_, _-_, _*_, _<_, _≤_}
 use native.Mathlib.Omega.{arith}
 use lib.ListN.{length, getD}
 use Rattle.std.specs.declared.option.Option.{Option}
 use Rattle.std.specs.declared.option.Option.the-variants.{Some, None}
 use Rattle.std.specs.declared.result.Result.{Result}
-use Rattle.std.specs.declared.result.Result.the-variants.{Ok, Err}
-use Rattle.rewriting.specs.Terms.{Term}
+use Rattle.rewriting.specs.Terms.{Term, and1}
 use Rattle.rewriting.specs.Different.{different}
 use Rattle.rewriting.proofs.Different.{listed-same}
 use Rattle.store.specs.declared.types.Store.{Store}
 use Rattle.store.specs.declared.types.Roots.{Roots}
 use Rattle.store.specs.declared.types.Place.{Place}
 use Rattle.store.specs.declared.types.Key.{Key}
+use Rattle.store.specs.declared.types.Order.{Order}
+use Rattle.store.specs.declared.types.Order.the-variants.{Up, Down}
 use Rattle.store.specs.declared.types.Full.{Full}
-use Rattle.store.specs.declared.types.Full.the-variants.{NoSlot, NoRoot}
 use Rattle.store.specs.Cells.{cell, Cell-put}
-use Rattle.store.specs.Slots.{tag-of, arity-of, kind-of, flag-of, note-at, term-of, Shared, Fits-in, key-term, Added}
+use Rattle.store.specs.Slots.{tag-of, arity-of, kind-of, flag-of, note-at, parts-by, term-of, Shared, Fits-in, key-term, Added}
 use Rattle.store.specs.Chains.{Chains, Holds, Pushed}
 use Rattle.store.specs.Roots.{Has-roots}
-use Rattle.store.specs.Stacks.{root-in, Stacked-on, Gathered}
-use Rattle.store.specs.Stores.{Sound, term-in, flag-in, note-in, Grown, Note-kept, Origin, new, old, Carried, held, parts-held, Inside, Roots-kept}
-use Rattle.store.specs.Making.{Interned, root-term, Placed, Stacked, Stacked-or-full, Made}
+use Rattle.store.specs.Stacks.{root-in, Stacked-on, in-order, Gathered}
+use Rattle.store.specs.Stores.{term-in, flag-in, note-in, Grown, Note-kept, new, old, Carried, held, parts-held, Inside}
+use Rattle.store.specs.Stores.{Roots-kept, terms-down}
+use Rattle.store.specs.Making.{Interned, root-term, Placed, Stacked, Made}
 use Rattle.store.proofs.Cases.{le-or-lt, below-next}
 use Rattle.store.proofs.Decoding.{added-is, stays, shared-added, shape-added, node-same}
 use Rattle.store.proofs.Telling.{unheld}
@@ -87,6 +87,18 @@ grown-same a = record {
   new-notes = λ i l m. absurd (omega arith);
 }
 
+pub grown-then : (a b d : Store) → Grown a b → Grown b d → Grown a d
+grown-then a b d f g = record {
+  room = g .room ∙ f .room;
+  limit = g .limit ∙ f .limit;
+  longer = omega (arith, f .longer, g .longer);
+  terms = λ i l. g .terms i (omega (arith, f .longer)) ∙ f .terms i l;
+  flags = λ i l. g .flags i (omega (arith, f .longer)) ∙ f .flags i l;
+  notes = λ i l. g .notes i (omega (arith, f .longer)) ∙ f .notes i l;
+  new-flags = λ i l m. ⊎-elim (λ h. g .new-flags i h m) (λ h. g .flags i h ∙ f .new-flags i l h) (le-or-lt (b .count) i);
+  new-notes = λ i l m. ⊎-elim (λ h. g .new-notes i h m) (λ h. g .notes i h ∙ f .new-notes i l h) (le-or-lt (b .count) i);
+}
+
 -- flags and notes
 pub carried-grown : (a b : Store) → Grown a b → Carried a b
 carried-grown a b g m l = ⊎-elim
@@ -140,21 +152,32 @@ pub parts-same : (a b : Store) (q : Roots) → Roots-kept a q b q → parts-held
 parts-same a b q r = ap different (listed-same (λ k. held b q k) (λ k. held a q k) (q .top) (r .terms))
 
 -- the key gathered from kept roots fits, and has the term that they were to give
-pub gathered-fits : (b : Store) (head from1 : ℕ) (r : Roots) (key : Key) → Gathered head r from1 key → tag-of (kind-of head) ≤ 5 →
+order-below : (o : Order) (from1 n k : ℕ) → k < n → in-order o from1 n k < from1 + n
+order-below Up from1 n k l = omega arith
+order-below Down from1 n k l = omega arith
+
+pub gathered-fits : (b : Store) (head from1 : ℕ) (r : Roots) (o : Order) (key : Key) → Gathered head r o from1 key →
+    tag-of (kind-of head) ≤ 5 →
     from1 + arity-of (kind-of head) ≤ r .top → Inside b r → Fits-in key (b .count)
-gathered-fits b head from1 r key g t l i =
+gathered-fits b head from1 r o key g t l i =
     let e : tag-of (kind-of (key .head)) ≡ tag-of (kind-of head) = ap tag-of (ap kind-of (g .same-head)) in
     record {
       tags = omega arith;
-      below = λ k x. let z = g .parts k (omega arith) in let y = i .low (from1 + k) (omega arith) in omega arith;
+      below = λ k x. let m : k < arity-of (kind-of head) = omega arith in let z = g .parts k m in
+          let y = i .low (in-order o from1 (arity-of (kind-of head)) k)
+          (omega (arith, order-below o from1 (arity-of (kind-of head)) k m)) in
+          omega arith;
     }
 
-pub gathered-term : (a b : Store) (head from1 : ℕ) (q r : Roots) (key : Key) → Gathered head r from1 key → tag-of (kind-of head) ≤ 5 →
-    from1 + arity-of (kind-of head) ≤ q .top → Roots-kept a q b r → key-term (b .words .now) key ≡ root-term a head q from1
-gathered-term a b head from1 q r key g t l k = node-same (λ j. term-in b j) (λ j. term-in a j) (kind-of (key .head)) (kind-of head)
-    (λ m. getD (key .parts) m 0) (λ m. root-in q (from1 + m)) (ap kind-of (g .same-head))
+pub gathered-term : (a b : Store) (head from1 : ℕ) (q r : Roots) (o : Order) (key : Key) → Gathered head r o from1 key →
+    tag-of (kind-of head) ≤ 5 →
+    from1 + arity-of (kind-of head) ≤ q .top → Roots-kept a q b r → key-term (b .words .now) key ≡ root-term a head q o from1
+gathered-term a b head from1 q r o key g t l k = node-same (λ j. term-in b j) (λ j. term-in a j) (kind-of (key .head)) (kind-of head)
+    (λ m. getD (key .parts) m 0) (λ m. root-in q (in-order o from1 (arity-of (kind-of head)) m))
+    (ap kind-of (g .same-head))
     (λ m x. let e : tag-of (kind-of (key .head)) ≡ tag-of (kind-of head) = ap tag-of (ap kind-of (g .same-head)) in
-    ap (λ (y : ℕ). term-in b y) (g .parts m (omega arith)) ∙ k .terms (from1 + m) (omega arith))
+    let n : m < arity-of (kind-of head) = omega arith in
+    ap (λ (y : ℕ). term-in b y) (g .parts m n) ∙ k .terms _ (omega (arith, order-below o from1 (arity-of (kind-of head)) m n)))
 
 -- interned after a collection
 pub placed : (a b d : Store) (q : Roots) (t u : Term) (r : Option Place) → t ≡ u → b .room ≡ a .room → b .count ≤ parts-held a q →
@@ -181,3 +204,16 @@ stacked a q b r from1 p s t k l i e x room = record {
 pub made-is : (a : Store) (q : Roots) (from1 : ℕ) (t u : Term) (b : Store) (r : Roots) (x : Result (Unit {0}) Full) → t ≡ u →
     Made a q from1 t b r x → Made a q from1 u b r x
 made-is a q from1 t u b r x e m = subst (λ (v : Term). Made a q from1 v b r x) e m
+
+-- parts in the order down are the roots from the uppermost on
+parts-down-from : (a : Store) (q : Roots) (from1 n m k : ℕ) → n ≡ k + m →
+    parts-by (λ j. term-in a j) (λ i. root-in q (from1 + (n - 1 - i))) k m ≡ terms-down a q from1 m
+parts-down-from a q from1 n zero k e = refl
+parts-down-from a q from1 n (suc m) k e =
+    let z : n - 1 - k ≡ m = omega arith in
+    ap (λ (x : ℕ). and1 (held a q (from1 + x)) (parts-by (λ j. term-in a j) (λ i. root-in q (from1 + (n - 1 - i))) (k + 1) m)) z
+    ∙ ap (and1 (held a q (from1 + m))) (parts-down-from a q from1 n m (k + 1) (omega arith))
+
+pub parts-down : (a : Store) (q : Roots) (from1 n m : ℕ) → n ≡ m →
+    parts-by (λ j. term-in a j) (λ i. root-in q (in-order Down from1 n i)) 0 m ≡ terms-down a q from1 m
+parts-down a q from1 n m e = parts-down-from a q from1 n m 0 (omega arith)

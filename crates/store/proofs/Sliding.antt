@@ -6,7 +6,7 @@ use native.Mathlib.Omega.{arith}
 use lib.ListN.{length, getD}
 use Rattle.store.specs.declared.types.Key.{Key}
 use Rattle.store.specs.Cells.{cell, Cell-put}
-use Rattle.store.specs.Slots.{tag-of, arity-of, kind-of, kind-at, arity-at, part-at, note-at, term-of, Shared, Fits-in, key-term, Added}
+use Rattle.store.specs.Slots.{tag-of, kind-of, kind-at, arity-at, part-at, note-at, term-of, Shared, Fits-in, key-term, Added}
 use Rattle.store.specs.Chains.{Chains, Pushed}
 use Rattle.store.specs.Marks.{Marked, Closed}
 use Rattle.store.specs.Slides.{Translated, Moved, Came, Slid}
@@ -29,7 +29,13 @@ slide-start vs = record {
 
 came-later : (vs : List ℕ) (i : ℕ) (ws : List ℕ) (m : ℕ) (xs : List ℕ) → Came vs i ws m →
     cell xs m 0 ≡ cell ws m 0 → term-of xs m ≡ term-of ws m → Came vs (i + 1) xs m
-came-later vs i ws m xs f h t = record { of = f .of; old = omega (arith, f .old); marked = f .marked; head = h ∙ f .head; term = t ∙ f .term }
+came-later vs i ws m xs f h t = record {
+  of = f .of;
+  old = omega (arith, f .old);
+  marked = f .marked;
+  head = h ∙ f .head;
+  term = t ∙ f .term;
+}
 
 pub slide-skip : (vs : List ℕ) (i : ℕ) (ws : List ℕ) (n : ℕ) → Slid vs i ws n → note-at ws i ≡ 0 → Slid vs (i + 1) ws n
 slide-skip vs i ws n s z = record {
@@ -133,8 +139,8 @@ module _ (vs : List ℕ) (c : ℕ) (w : Shared vs c) (cl : Closed vs c) (i : ℕ
         term = ap (λ (x : ℕ). term-of ys x) e ∙ now-is;
       })
 
-  pub slide-step : Slid vs (i + 1) ys (n + 1)
-  slide-step = record {
+  slid-more : Slid vs (i + 1) ys (n + 1)
+  slid-more = record {
     less = omega (arith, s .less);
     high = λ j k h m. same j k (omega arith) ∙ r .nodes j k m (λ e. omega (arith, s .less)) ∙ s .high j k (omega arith) m;
     ahead = λ j h. p .rest j 7 (omega arith) (λ a b. omega arith) ∙ r .notes j ∙ s .ahead j (omega arith);
@@ -146,7 +152,10 @@ module _ (vs : List ℕ) (c : ℕ) (w : Shared vs c) (cl : Closed vs c) (i : ℕ
         (record { of = i; old = omega arith; marked = was-marked; head = head-is; term = now-is });
   }
 
-  pub step-chains : Chains mask ys (n + 1)
-  step-chains = chains-kept mask xs ys (n + 1)
-      (chains-added mask ws n key xs ch (s .shared .shape) key-fits r (omega (arith, ch .fits)))
-      (shape-added ws xs n key (s .shared .shape) (added mask ws n key xs r) fits-x key-fits) (omega arith) same
+  pub slide-step : Slid vs (i + 1) ys (n + 1) × Chains mask ys (n + 1)
+  slide-step = (
+    slid-more,
+    chains-kept mask xs ys (n + 1)
+        (chains-added mask ws n key xs ch (s .shared .shape) key-fits r (omega (arith, ch .fits)))
+        (shape-added ws xs n key (s .shared .shape) (added mask ws n key xs r) fits-x key-fits) (omega arith) same,
+  )

@@ -12,7 +12,7 @@ use Rattle.store.specs.Slots.{symbol-of, tag-of, arity-of, kind-of, kind-at, p
 use Rattle.store.specs.Slots.{Shape, Shared, Fits-in, key-term}
 use Rattle.store.specs.Chains.{Holds}
 use Rattle.store.proofs.Cases.{le-or-lt}
-use Rattle.store.proofs.Decoding.{term-is, node-same}
+use Rattle.store.proofs.Decoding.{term-is, slot-key}
 
 parts-tell : (d e : ℕ → Term) (p q : ℕ → ℕ) (k n j : ℕ) → parts-by d p k n ≡ parts-by e q k j →
     (n ≡ j) × ((m : ℕ) → k ≤ m → m < k + n → d (p m) ≡ e (q m))
@@ -22,8 +22,11 @@ parts-tell d e p q k (suc n) zero h = let z : _≡_ {A = ℕ} 0 1 = cc in absurd
 parts-tell d e p q k (suc n) (suc j) h =
     let x : d (p k) ≡ e (q k) = cc in
     let y : parts-by d p (k + 1) n ≡ parts-by e q (k + 1) j = cc in
-    let r = parts-tell d e p q (k + 1) n j y in
-    (ap suc (r .0), λ m a b. ⊎-elim (λ z. subst (λ (i : ℕ). d (p i) ≡ e (q i)) z x) (λ z. r .1 m (omega arith) (omega arith)) (eq-or-lt-of-le a))
+    let r = parts-tell d e p q (k + 1) n j y in (
+      ap suc (r .0),
+      λ m a b. ⊎-elim (λ z. subst (λ (i : ℕ). d (p i) ≡ e (q i)) z x) (λ z. r .1 m (omega arith) (omega arith))
+          (eq-or-lt-of-le a),
+    )
 
 node-by-tells : (d e : ℕ → Term) (p q : ℕ → ℕ) (s t n j : ℕ) → node-by d p s n ≡ node-by e q t j →
     (s ≡ t) × (n ≡ j) × ((m : ℕ) → m < n - 1 → d (p m) ≡ e (q m))
@@ -55,16 +58,15 @@ one-place ws c i j w l m e = ⊎-elim
 -- a slot that holds the key stands for its term
 pub holds-term : (ws : List ℕ) (c i : ℕ) (key : Key) → Shape ws c → i < c → Holds ws i key → term-of ws i ≡ key-term ws key
 holds-term ws c i key w l o = term-is ws c i w l
-    ∙ node-same (λ j. term-of ws j) (λ j. term-of ws j) (kind-at ws i) (kind-of (key .head)) (λ k. part-at ws i k) (λ k. getD (key .parts) k 0) (o .kind)
-    (λ m a. let e : tag-of (kind-at ws i) ≡ tag-of (kind-of (key .head)) = ap tag-of (o .kind) in
+    ∙ slot-key ws ws i key (o .kind) (λ m a. let e : tag-of (kind-at ws i) ≡ tag-of (kind-of (key .head)) = ap tag-of (o .kind) in
     ap (λ (x : ℕ). term-of ws x) (o .parts m (omega arith)))
 
 -- and a term that a slot stands for is held
 pub unheld : (ws : List ℕ) (c : ℕ) (key : Key) → Shared ws c → Fits-in key c → ((i : ℕ) → i < c → Holds ws i key → ⊥) →
     (i : ℕ) → i < c → term-of ws i ≡ key-term ws key → ⊥
 unheld ws c key w f n i l e =
-    let r = node-tells (λ j. term-of ws j) (λ j. term-of ws j) (kind-at ws i) (kind-of (key .head)) (λ k. part-at ws i k) (λ k. getD (key .parts) k 0)
-    (sym (term-is ws c i (w .shape) l) ∙ e) in
+    let r = node-tells (λ j. term-of ws j) (λ j. term-of ws j) (kind-at ws i) (kind-of (key .head))
+    (λ k. part-at ws i k) (λ k. getD (key .parts) k 0) (sym (term-is ws c i (w .shape) l) ∙ e) in
     let t : tag-of (kind-at ws i) ≡ tag-of (kind-of (key .head)) = ap tag-of (r .0) in
     n i l (record {
       kind = r .0;

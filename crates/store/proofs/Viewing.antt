@@ -3,14 +3,14 @@ use mathlib.Core.Path.{_≡_, sym, _∙_, ap, subst}
 use mathlib.Core.Logic.{_⊎_, ⊎-elim}
 use mathlib.Core.Bool.{true}
 use mathlib.Core.List.{List}
-use Prim.Native.Nat.{ℕ, _+_, _<_, _≤_}
+use Prim.Native.Nat.{ℕ, _+_, _<_}
 use native.Mathlib.Omega.{arith}
 use native.Mathlib.Numerals.{add-one}
 use lib.ListN.{length}
 use borrow.Author.Tests.{le-leb}
 use Rattle.rewriting.specs.Terms.{Term, letter, sign}
 use Rattle.store.specs.Cells.{cell, Cell-put}
-use Rattle.store.specs.Slots.{symbol-of, tag-of, kind-of, flag-of, kind-at, part-at, parts-by, node-by, node, term-of, Shared, Alike}
+use Rattle.store.specs.Slots.{symbol-of, tag-of, kind-of, flag-of, kind-at, parts-by, node-by, node, term-of, Shared, Alike}
 use Rattle.store.specs.Chains.{Chains}
 use Rattle.store.proofs.Cases.{eq-or}
 use Rattle.store.proofs.Decoding.{term-alike, shared-alike}

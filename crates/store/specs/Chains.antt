@@ -3,12 +3,12 @@ use mathlib.Core.Path.{_≡_}
 use mathlib.Core.List.{List}
 use Prim.Native.Nat.{ℕ, zero, suc, _+_, _-_, _*_, _/_, _%_, _<_, _≤_}
 use lib.Bits.{bitAnd}
-use lib.ListN.{length, getD}
+use lib.ListN.{getD}
 use Rattle.std.specs.declared.option.Option.{Option}
 use Rattle.std.specs.declared.option.Option.the-variants.{Some, None}
 use Rattle.store.specs.declared.types.Key.{Key}
 use Rattle.store.specs.Cells.{cell, Has-slot}
-use Rattle.store.specs.Slots.{kind-of, arity-of, kind-at, arity-at, part-at, link-at, last-at, note-at}
+use Rattle.store.specs.Slots.{kind-of, arity-of, kind-at, part-at, link-at, last-at, note-at}
 
 -- the hash of a kind k and its parts p 0, p 1, ..: each is added, and the sum multiplied by 2^64 over the golden ratio
 unfoldable pub mix-of : ℕ → ℕ → ℕ

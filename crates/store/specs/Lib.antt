@@ -8,3 +8,4 @@ pub mod Roots
 pub mod Stacks
 pub mod Stores
 pub mod Making
+pub mod Transfers

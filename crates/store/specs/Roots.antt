@@ -1,7 +1,7 @@
 -- Roots: a cell of two words for each, the low one first.
 use mathlib.Core.Path.{_≡_}
 use mathlib.Core.List.{List}
-use Prim.Native.Nat.{ℕ, _+_, _*_, _<_, _≤_}
+use Prim.Native.Nat.{ℕ, _+_, _*_, _≤_}
 use lib.ListN.{length, getD}
 
 unfoldable pub root-at : List ℕ → ℕ → ℕ

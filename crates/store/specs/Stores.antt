@@ -1,11 +1,11 @@
 -- A store and its roots as a whole.
 use mathlib.Core.Path.{_≡_}
 use mathlib.Core.Bool.{Bool, true, false}
-use Prim.Native.Nat.{ℕ, _+_, _-_, _*_, _<_, _≤_}
+use Prim.Native.Nat.{ℕ, zero, suc, _+_, _-_, _*_, _<_, _≤_}
 use lib.ListN.{length}
 use Rattle.std.specs.declared.option.Option.{Option}
 use Rattle.std.specs.declared.option.Option.the-variants.{Some, None}
-use Rattle.rewriting.specs.Terms.{Term, Terms, letter, sign}
+use Rattle.rewriting.specs.Terms.{Term, Terms, letter, sign, none1, and1}
 use Rattle.rewriting.specs.Different.{different, listed}
 use Rattle.store.specs.declared.types.Store.{Store}
 use Rattle.store.specs.declared.types.Roots.{Roots}
@@ -110,9 +110,13 @@ held a r k = term-in a (root-in r k)
 abbrev pub parts-held : Store → Roots → ℕ
 parts-held a r = different (listed (λ k. held a r k) (r .top))
 
--- the terms of n roots, from one on
-abbrev pub terms-held : Store → Roots → ℕ → ℕ → Terms
-terms-held a r from1 n = parts-by (λ j. term-in a j) (λ k. root-in r (from1 + k)) 0 n
+-- the terms of n roots, from one on: the lowest first, and the uppermost first
+abbrev pub terms-up : Store → Roots → ℕ → ℕ → Terms
+terms-up a r from1 n = parts-by (λ j. term-in a j) (λ k. root-in r (from1 + k)) 0 n
+
+abbrev pub terms-down : Store → Roots → ℕ → ℕ → Terms
+terms-down a r from1 zero = none1
+terms-down a r from1 (suc n) = and1 (held a r (from1 + n)) (terms-down a r from1 n)
 
 -- the roots are places of the store
 pub record Inside (a : Store) (r : Roots) : Type 0 where

@@ -1,8 +1,7 @@
 // Chains of slots by hash: finding the slot of a key, and adding one.
 ghost use mathlib.Core.Path.{_≡_};
 ghost use mathlib.Core.Bool.{true, false};
-ghost use Prim.Native.Nat.{ℕ, _+_, _*_, _<_, _≤_};
-ghost use lib.ListN.{length};
+ghost use Prim.Native.Nat.{_+_, _<_, _≤_};
 ghost use Rattle.store.specs.Cells.{Has-slot};
 ghost use Rattle.store.specs.Slots.{kind-of, tag-of, Shape, Fits-in};
 ghost use Rattle.store.specs.Chains.{mix-of, key-bucket, Chains, Found, Holds, Pushed};

@@ -1,13 +1,13 @@
 // Making terms: a term's place is found or added, and a full store is collected first.
 ghost use mathlib.Core.Path.{_≡_};
 ghost use mathlib.Core.Bool.{false};
-ghost use Prim.Native.Nat.{ℕ, _+_, _-_, _*_, _/_, _<_, _≤_};
+ghost use Prim.Native.Nat.{ℕ, _+_, _-_, _*_, _/_, _^_, _<_, _≤_};
 ghost use lib.ListN.{length};
 ghost use Rattle.rewriting.specs.Terms.{letter, sign};
 ghost use Rattle.store.specs.Slots.{kind-of, tag-of, arity-of, flag-of, Fits-in, key-term};
 ghost use Rattle.store.specs.Chains.{Found};
-ghost use Rattle.store.specs.Stores.{Sound, Grown, Carried, Inside, Roots-kept, terms-held};
-ghost use Rattle.store.specs.Making.{Opened, Interned, Kept-only, root-term, Placed, Made};
+ghost use Rattle.store.specs.Stores.{Sound, Grown, Carried, Inside, Roots-kept, terms-up, terms-down};
+ghost use Rattle.store.specs.Making.{Opened, Interned, Kept-only, root-term, Placed, Made, Parts-inside, Sign-shared, Reserved};
 use crate::chains::find;
 use crate::chains::push;
 use crate::collect::compact;
@@ -20,6 +20,7 @@ use crate::slots::put;
 use crate::slots::sign_head;
 use crate::types::Full;
 use crate::types::Key;
+use crate::types::Order;
 use crate::types::Place;
 use crate::types::Roots;
 use crate::types::Store;
@@ -32,6 +33,7 @@ fn mask_below(n: usize) -> usize
     requires { ⌜ 0 < n ⌝ }
     ensures low { λ r. ⌜ r < n ⌝ }
     ensures half { λ r. ⌜ n ≤ 2 * r + 2 ⌝ }
+    ensures form { λ r. ⌜ ((k : ℕ) × (r + 1 ≡ 2 ^ k)) ⌝ }
 {
     let mut mask = 0usize;
     while mask < n - 1 - mask {
@@ -75,7 +77,9 @@ impl Store<'_> {
         requires { ⌜ Sound (now self) ⌝ ∗ ⌜ Fits-in (now key) (now self .count) ⌝ ∗ ⌜ flag-of (now key .head) ≡ false ⌝ }
         ensures sound { λ r. ⌜ Sound (now (self .exit)) ⌝ }
         ensures grown { λ r. ⌜ Grown (now (self .entry)) (now (self .exit)) ⌝ }
-        ensures place { λ r. ⌜ Interned (now (self .entry)) (now (self .exit)) (key-term (now (now (self .entry) .words)) (now (key .entry))) r ⌝ }
+        ensures few { λ r. ⌜ now (self .exit) .count ≤ now (self .entry) .count + 1 ⌝ }
+        ensures place { λ r. ⌜ Interned (now (self .entry)) (now (self .exit))
+            (key-term (now (now (self .entry) .words)) (now (key .entry))) r ⌝ }
     {
         if let Some(i) = self.find(key) {
             return Some(Place(i));
@@ -110,7 +114,7 @@ impl Store<'_> {
     }
 
     // The place of the term with this head and the roots from one on as parts; none if what the roots hold fills the store.
-    fn place(&mut self, roots: &mut Roots, head: usize, from: usize) -> Option<Place>
+    fn place(&mut self, roots: &mut Roots, head: usize, from: usize, order: Order) -> Option<Place>
         requires { ⌜ Sound (now self) ⌝ ∗ ⌜ Inside (now self) (now roots) ⌝ ∗ ⌜ flag-of head ≡ false ⌝ }
         requires { ⌜ tag-of (kind-of head) ≤ 5 ⌝ ∗ ⌜ from + arity-of (kind-of head) ≡ now roots .top ⌝ }
         ensures sound { λ _. ⌜ Sound (now (self .exit)) ⌝ }
@@ -118,28 +122,35 @@ impl Store<'_> {
         ensures carried { λ _. ⌜ Carried (now (self .entry)) (now (self .exit)) ⌝ }
         ensures roots { λ _. ⌜ Roots-kept (now (self .entry)) (now (roots .entry)) (now (self .exit)) (now (roots .exit)) ⌝ }
         ensures place { λ r. ⌜ Placed (now (self .entry)) (now (roots .entry)) (now (self .exit))
-            (root-term (now (self .entry)) head (now (roots .entry)) from) r ⌝ }
+            (root-term (now (self .entry)) head (now (roots .entry)) order from) r ⌝ }
     {
-        let key = roots.gather(head, from);
+        let key = roots.gather(head, from, order);
         if let Some(p) = self.intern(&key) {
             return Some(p);
         }
         self.collect(roots);
-        let moved = roots.gather(head, from);
+        let moved = roots.gather(head, from, order);
         self.intern(&moved)
     }
 
     // Puts the term with this head in place of the roots that are its parts, from one on.
-    fn make(&mut self, roots: &mut Roots, head: usize, from: usize) -> Result<(), Full>
+    fn make(
+        &mut self,
+        roots: &mut Roots,
+        head: usize,
+        from: usize,
+        order: Order,
+    ) -> Result<(), Full>
         requires { ⌜ Sound (now self) ⌝ ∗ ⌜ Inside (now self) (now roots) ⌝ ∗ ⌜ flag-of head ≡ false ⌝ }
         requires { ⌜ tag-of (kind-of head) ≤ 5 ⌝ ∗ ⌜ from + arity-of (kind-of head) ≡ now roots .top ⌝ }
-        ensures { λ x. ⌜ Made (now (self .entry)) (now (roots .entry)) from (root-term (now (self .entry)) head (now (roots .entry)) from)
+        ensures { λ x. ⌜ Made (now (self .entry)) (now (roots .entry)) from
+            (root-term (now (self .entry)) head (now (roots .entry)) order from)
             (now (self .exit)) (now (roots .exit)) x ⌝ }
     {
         if roots.cells.len() / 2 <= from {
             return Err(Full::NoRoot);
         }
-        match self.place(roots, head, from) {
+        match self.place(roots, head, from, order) {
             Some(p) => {
                 roots.stack(from, p);
                 Ok(())
@@ -155,17 +166,56 @@ impl Store<'_> {
             (now (self .exit)) (now (roots .exit)) r ⌝ }
     {
         let top = roots.top;
-        self.make(roots, letter_head(x), top)
+        self.make(roots, letter_head(x), top, Order::Up)
     }
 
-    // A sign with the last n roots as parts, in their place.
+    // A sign with the last n roots as parts, in their place. The lowest is the first part.
     pub fn make_sign(&mut self, roots: &mut Roots, f: u32, n: usize) -> Result<(), Full>
         requires { ⌜ Sound (now self) ⌝ ∗ ⌜ Inside (now self) (now roots) ⌝ ∗ ⌜ n ≤ 4 ⌝ ∗ ⌜ n ≤ now roots .top ⌝ }
         ensures { λ r. ⌜ Made (now (self .entry)) (now (roots .entry)) (now (roots .entry) .top - n)
-            (sign f (terms-held (now (self .entry)) (now (roots .entry)) (now (roots .entry) .top - n) n))
+            (sign f (terms-up (now (self .entry)) (now (roots .entry)) (now (roots .entry) .top - n) n))
             (now (self .exit)) (now (roots .exit)) r ⌝ }
     {
         let from = roots.top - n;
-        self.make(roots, sign_head(f, n), from)
+        self.make(roots, sign_head(f, n), from, Order::Up)
+    }
+
+    // The same, with the uppermost root as the first part.
+    pub fn make_sign_down(&mut self, roots: &mut Roots, f: u32, n: usize) -> Result<(), Full>
+        requires { ⌜ Sound (now self) ⌝ ∗ ⌜ Inside (now self) (now roots) ⌝ ∗ ⌜ n ≤ 4 ⌝ ∗ ⌜ n ≤ now roots .top ⌝ }
+        ensures { λ r. ⌜ Made (now (self .entry)) (now (roots .entry)) (now (roots .entry) .top - n)
+            (sign f (terms-down (now (self .entry)) (now (roots .entry)) (now (roots .entry) .top - n) n))
+            (now (self .exit)) (now (roots .exit)) r ⌝ }
+    {
+        let from = roots.top - n;
+        self.make(roots, sign_head(f, n), from, Order::Down)
+    }
+
+    // Sees to it that n more slots are below the limit, by a collection if need be; no if what the roots hold leaves no room for them.
+    pub fn reserve(&mut self, roots: &mut Roots, n: usize) -> bool
+        requires { ⌜ Sound (now self) ⌝ ∗ ⌜ Inside (now self) (now roots) ⌝ }
+        ensures { λ r. ⌜ Reserved (now (self .entry)) (now (roots .entry)) n (now (self .exit)) (now (roots .exit)) r ⌝ }
+    {
+        if n <= self.limit - self.count {
+            return true;
+        }
+        self.collect(roots);
+        if n <= self.limit - self.count {
+            return true;
+        }
+        self.limit = self.room;
+        n <= self.room - self.count
+    }
+
+    // The place of the sign f with the first n places as parts, below the limit.
+    pub fn share_sign(&mut self, f: u32, parts: [Place; 4], n: usize) -> Place
+        requires { ⌜ Sound (now self) ⌝ ∗ ⌜ n ≤ 4 ⌝ ∗ ⌜ Parts-inside (now self) parts n ⌝ ∗ ⌜ now self .count < now self .limit ⌝ }
+        ensures { λ r. ⌜ Sign-shared (now (self .entry)) f parts n (now (self .exit)) r ⌝ }
+    {
+        let key = Key {
+            head: sign_head(f, n),
+            parts: [parts[0].0, parts[1].0, parts[2].0, parts[3].0],
+        };
+        self.intern(&key).unwrap()
     }
 }

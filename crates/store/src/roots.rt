@@ -1,16 +1,15 @@
 // Roots in lent words: the stack of places that are kept.
 ghost use mathlib.Core.Path.{_≡_};
-ghost use mathlib.Core.List.{List};
-ghost use Prim.Native.Nat.{ℕ, _+_, _-_, _*_, _<_, _≤_};
-ghost use lib.ListN.{length};
+ghost use Prim.Native.Nat.{_+_, _-_, _*_, _^_, _<_, _≤_};
 ghost use Rattle.store.specs.Slots.{kind-of, tag-of, arity-of};
 ghost use Rattle.store.specs.Roots.{root-at, Has-roots, Root-put};
-ghost use Rattle.store.specs.Stacks.{root-in, Stacked-on, Pushed-or-full, Root-set, Cut-to, Gathered};
+ghost use Rattle.store.specs.Stacks.{root-in, Stacked-on, Pushed-or-full, Root-set, Cut-to, in-order, Gathered};
 use crate::slots::WORD;
 use crate::slots::arity;
 use crate::slots::kind;
 use crate::types::Full;
 use crate::types::Key;
+use crate::types::Order;
 use crate::types::Place;
 use crate::types::Roots;
 
@@ -28,6 +27,20 @@ pub fn set_root(cells: &mut [u32], k: usize, v: usize)
 {
     cells[2 * k] = (v % WORD) as u32;
     cells[2 * k + 1] = (v / WORD) as u32;
+}
+
+impl Order {
+    // Which of n roots, from one on, is part k.
+    fn at(self, from: usize, n: usize, k: usize) -> usize
+        requires { ⌜ k < n ⌝ ∗ ⌜ from + n < 2 ^ 64 ⌝ }
+        ensures is { λ r. ⌜ r ≡ in-order self from n k ⌝ }
+        ensures below { λ r. ⌜ r < from + n ⌝ }
+    {
+        match self {
+            Order::Up => from + k,
+            Order::Down => from + (n - 1 - k),
+        }
+    }
 }
 
 impl<'a> Roots<'a> {
@@ -86,13 +99,14 @@ impl Roots<'_> {
     }
 
     // The key with this head and the roots from one on as parts.
-    pub fn gather(&self, head: usize, from: usize) -> Key
+    pub fn gather(&self, head: usize, from: usize, order: Order) -> Key
         requires { ⌜ tag-of (kind-of head) ≤ 5 ⌝ ∗ ⌜ Has-roots (now (now self .cells)) (from + arity-of (kind-of head)) ⌝ }
-        ensures { λ r. ⌜ Gathered head (now (self .entry)) from r ⌝ }
+        ensures { λ r. ⌜ Gathered head (now (self .entry)) order from r ⌝ }
     {
         let mut parts = [0; 4];
-        for k in 0..arity(kind(head)) {
-            parts[k] = self.place(from + k).0;
+        let n = arity(kind(head));
+        for k in 0..n {
+            parts[k] = self.place(order.at(from, n, k)).0;
         }
         Key { head, parts }
     }

@@ -1,6 +1,6 @@
 // Slots in lent words: reading and writing their cells. A slot of 16 words is one cache line.
 ghost use mathlib.Core.Path.{_≡_};
-ghost use Prim.Native.Nat.{ℕ, _+_, _-_, _*_, _<_, _≤_};
+ghost use Prim.Native.Nat.{_+_, _-_, _*_, _<_, _≤_};
 ghost use lib.ListN.{length};
 ghost use Rattle.store.specs.Cells.{cell, Has-slot, Cell-put, Cleared};
 ghost use Rattle.store.specs.Slots.{kind-of, arity-of, arity-at, part-at, tag-of, symbol-of, flag-of, Parts-written, Slot-written};

@@ -1,7 +1,7 @@
 // The types: a store of shared terms, and the stack of roots that says which are kept.
 
-// A store in lent words. The first `count` slots are in use, each for another term; at `limit` slots it is collected, and `room` slots there are.
-// Buckets are numbered by `mask`, a number of the form 2^k - 1.
+// A store in lent words, with `room` slots. The first `count` are in use, each for another term; at `limit` of them it is collected.
+// Buckets are numbered up to `mask`, a number of the form 2^k - 1.
 #[derive(Drop)]
 pub struct Store<'a> {
     pub words: &'a mut [u32],
@@ -11,7 +11,7 @@ pub struct Store<'a> {
     pub count: usize,
 }
 
-// A stack of places in lent words: their terms are kept. Anything else that a collection leaves may be another term's place afterwards.
+// A stack of places in lent words: their terms are kept. After a collection any other place is another term's, or none's.
 #[derive(Drop)]
 pub struct Roots<'a> {
     pub cells: &'a mut [u32],
@@ -29,11 +29,25 @@ pub enum Node {
     Sign(u32, usize),
 }
 
+// Which of the roots that become parts is the first part: the lowest or the uppermost.
+#[derive(Clone, Copy)]
+pub enum Order {
+    Up,
+    Down,
+}
+
 // What was wanting: a slot for a term, or a cell for a root.
 #[derive(Clone, Copy)]
 pub enum Full {
     NoSlot,
     NoRoot,
+}
+
+// What was wanting to write a row: a word for it, or a cell for a root.
+#[derive(Clone, Copy)]
+pub enum Short {
+    NoWord,
+    NoCell,
 }
 
 // What a slot is found by: its head and the numbers of its parts' slots.

@@ -1,7 +1,7 @@
 // What stands at a place: the node, its parts, the flag that says normal, and the note.
 ghost use mathlib.Core.Path.{_≡_};
 ghost use mathlib.Core.Bool.{true, false};
-ghost use Prim.Native.Nat.{ℕ, _+_, _-_, _*_, _<_, _≤_};
+ghost use Prim.Native.Nat.{_+_, _-_, _<_};
 ghost use Rattle.store.specs.Cells.{cell};
 ghost use Rattle.store.specs.Stores.{Sound, term-in, arity-in, part-in, flag-in, note-in, note-of, Shows, Flag-set, Note-set};
 use crate::slots::FLAG;

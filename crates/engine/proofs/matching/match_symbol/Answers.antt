@@ -23,7 +23,8 @@ returns-then-x-lt32 c ps to l t m =
 
 pub returns-else-x-lt32 : need.returns-else-x-lt32
 returns-else-x-lt32 c ps to l t m =
-    absurd (large-letter ps (c .args .words .now) to l t (c .args .store .now) (c .args .at) (c .args .pending .now) (c .args .bindings .now)
+    absurd (large-letter ps (c .args .words .now) to l t (c .args .store .now) (c .args .at) (c .args .pending .now)
+    (c .args .bindings .now)
     (c .pop-p .result) (c .pop-p .last .self) (c .pop-p .ensures)
     (λ i j. one-place (c .args .store .now .words .now) (c .args .store .now .count) i j (c .pre .0 .0 .shared)) (c .in-Letter .x)
     (subst (λ (y : Symbol). Symbol-at (c .args .words .now) (c .args .at) (Some y)) (c .in-Letter .is) (c .in-Some .ensures tt))

@@ -5,9 +5,9 @@ use native.Mathlib.Omega.{arith}
 use Rattle.rewriting.specs.Terms.{Term}
 use Rattle.store.specs.declared.types.Place.{Place}
 use Rattle.store.specs.Stores.{term-in}
-use Rattle.engine.specs.Books.{told, rule-in}
+use Rattle.books.specs.Books.{told, rule-in}
 use Rattle.engine.specs.Matching.{Instance}
-use Rattle.engine.proofs.Bookish.{rule-sides}
+use Rattle.books.proofs.Bookish.{rule-sides}
 use Rattle.engine.proofs.Matcher.{match-start, match-room, match-end}
 use Rattle.engine.proofs.matching.matches.Needs as need
 
@@ -26,7 +26,8 @@ match-symbol-requires c κs =
     let k = c .args .book .now in
     let sides = rule-sides k (c .pre .0 .0) (c .args .i) (c .pre .0 .1) in
     let short : c .args .to ≤ c .args .from + 64 = omega (arith, c .pre .1 .long, sides .left-size) in
-    let room = match-room (told k .parts) (k .words .now) (c .args .to) (rule-in k (c .args .i) .left) _ (c .args .store .now) (c .loop-at .at)
+    let room = match-room (told k .parts) (k .words .now) (c .args .to) (rule-in k (c .args .i) .left) _ (c .args .store .now)
+    (c .loop-at .at)
     (c .loop-at .pending) (c .loop-at .bindings) (c .args .from) (c .loop-at .inv .0) short (c .loop-at-test .taken) (c .loop-at .inv .1) in
     ((c .pre .2 .0, (room .0, room .1)), room .2)
 
@@ -46,7 +47,8 @@ loop-at-again c =
 pub returns : need.returns
 returns c =
     let k = c .args .book .now in
-    subst (λ (r : Place). Instance (c .args .store .now) (c .loop-at .bindings) (rule-in k (c .args .i) .left) (term-in (c .args .store .now) (r .0)))
+    subst (λ (r : Place).
+    Instance (c .args .store .now) (c .loop-at .bindings) (rule-in k (c .args .i) .left) (term-in (c .args .store .now) (r .0)))
     (c .new-pending .ensures .place)
     (match-end (told k .parts) (k .words .now) (c .args .to) (rule-in k (c .args .i) .left) _ (c .args .store .now) (c .loop-at .at)
     (c .loop-at .pending) (c .loop-at .bindings) (c .loop-at .inv .1) (c .loop-at-test .left))

@@ -2,7 +2,7 @@
 use Prim.Native.Nat.{_-_, _≤_}
 use lib.ListN.{getD}
 use Rattle.store.specs.Stores.{term-in}
-use Rattle.engine.specs.Books.{told, rule-in}
+use Rattle.books.specs.Books.{told, rule-in}
 use Rattle.engine.specs.Matching.{Matching}
 use Rattle.engine.proofs.matching.matches.Given as given
 

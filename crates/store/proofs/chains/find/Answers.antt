@@ -1,5 +1,5 @@
 -- The search starts at the bucket's last slot and goes on by links.
-use mathlib.Core.Path.{_≡_, sym, subst}
+use mathlib.Core.Path.{sym, subst}
 use Prim.Native.Nat.{ℕ, _-_, _<_}
 use native.Mathlib.Omega.{arith}
 use Rattle.store.specs.Chains.{Last, bucket-at}

@@ -6,4 +6,5 @@ use Rattle.store.proofs.collect.mark.Needs as need
 
 pub returns : need.returns
 returns c = roots-marked (c .args .ws .now) (c .clear .last .ws) (c .mark-roots .last .ws) (c .mark-reached .last .ws) (c .args .count)
-    (λ k. root-at (c .args .cells .now) k) (c .args .top) (c .pre .0 .0) (omega arith) (c .clear .ensures) (c .mark-roots .ensures) (c .mark-reached .ensures)
+    (λ k. root-at (c .args .cells .now) k) (c .args .top) (c .pre .0 .0) (omega arith) (c .clear .ensures) (c .mark-roots .ensures)
+    (c .mark-reached .ensures)

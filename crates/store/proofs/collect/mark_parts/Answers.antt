@@ -1,6 +1,6 @@
 -- One more part is marked.
-use mathlib.Core.Path.{_≡_, _∙_}
-use Prim.Native.Nat.{ℕ, _+_, _≤_}
+use mathlib.Core.Path.{_∙_}
+use Prim.Native.Nat.{_+_, _≤_}
 use native.Mathlib.Omega.{arith}
 use Rattle.store.specs.Slots.{part-at, tag-of, kind-at}
 use Rattle.store.proofs.Marking.{too-start, too-more}

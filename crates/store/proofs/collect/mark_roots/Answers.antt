@@ -7,5 +7,6 @@ pub loop-k-holds : need.loop-k-holds
 loop-k-holds c = too-start _ _
 
 pub loop-k-again : need.loop-k-again
-loop-k-again c = too-more (λ k. root-at (c .args .cells .now) k) (c .loop-k .k) (c .root .result) (c .args .ws .now) (c .loop-k .ws) (c .put .last .ws)
+loop-k-again c = too-more (λ k. root-at (c .args .cells .now) k) (c .loop-k .k) (c .root .result) (c .args .ws .now) (c .loop-k .ws)
+    (c .put .last .ws)
     (c .loop-k .inv) (c .root .ensures) (c .put .ensures)

@@ -1,5 +1,5 @@
 -- What is left is below the limit, or the limit is all the room.
-use mathlib.Core.Path.{_≡_, refl}
+use mathlib.Core.Path.{refl}
 use Prim.Native.Nat.{_≤_}
 use native.Mathlib.Omega.{arith}
 use Rattle.store.proofs.Keeping.{kept-only}

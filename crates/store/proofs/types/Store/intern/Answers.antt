@@ -1,5 +1,5 @@
 -- Found, it is there; else it is one slot more.
-use mathlib.Core.Path.{_≡_, refl, _∙_}
+use mathlib.Core.Path.{refl, _∙_}
 use native.Mathlib.Omega.{arith}
 use Rattle.store.proofs.Telling.{holds-term}
 use Rattle.store.proofs.Placing.{one-more, grown-same}
@@ -11,6 +11,7 @@ returns-in-Some c =
     record {
       sound = c .pre .0;
       grown = grown-same _;
+      few = omega arith;
       place = (f .0, holds-term (a .words .now) (a .count) (c .in-Some .i) (c .args .key .now) (c .pre .0 .shared .shape) (f .0) (f .1));
     }
 
@@ -38,5 +39,6 @@ returns c =
         new-flags = λ i l h. g .new-flags i l h ∙ c .pre .1 .1;
         new-notes = g .new-notes;
       };
+      few = omega arith;
       place = (omega arith, g .term);
     }

@@ -1,7 +1,7 @@
 -- Without a cell for the root nothing is done; with one, it is the place.
-use mathlib.Core.Path.{_≡_, refl}
+use mathlib.Core.Path.{refl}
 use native.Mathlib.Omega.{arith}
-use Rattle.store.proofs.Placing.{roots-same, grown-same, carried-grown, stacked}
+use Rattle.store.proofs.Placing.{roots-same, grown-same, carried-grown}
 use Rattle.store.proofs.types.Store.make.Needs as need
 
 pub returns-then-roots-from : need.returns-then-roots-from

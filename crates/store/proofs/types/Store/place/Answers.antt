@@ -19,7 +19,7 @@ returns-in-Some c =
       roots = roots-grown a a b q q same (m .grown);
       place = (
         m .place .0,
-        m .place .1 ∙ gathered-term a a (c .args .head) (c .args .from) q q (c .gather-key .result)
+        m .place .1 ∙ gathered-term a a (c .args .head) (c .args .from) q q (c .args .order) (c .gather-key .result)
             (c .gather-key .ensures) (omega arith) (omega arith) same,
       );
     }
@@ -28,6 +28,7 @@ pub returns : need.returns
 returns c =
     let a = c .args .self .now in let b = c .intern .last .self in let d = c .collect .last .self in let e = c .intern-2 .last .self in
     let q = c .args .roots .now in let r = c .collect .last .roots in
+    let head = c .args .head in let from1 = c .args .from in let order = c .args .order in let key = c .gather-moved .result in
     let m = c .intern-2 .ensures in let k = c .collect .ensures in
     let first = roots-grown a a b q q (roots-same a q (c .pre .0 .1 .0)) (c .intern .ensures .grown) in
     let second = roots-then a b d q q r first (k .roots) in
@@ -37,8 +38,9 @@ returns c =
       sound = m .sound;
       room = m .grown .room ∙ room;
       roots = roots-grown a d e q r second (m .grown);
-      carried = carried-then a b e (carried-grown a b (c .intern .ensures .grown)) (carried-then b d e (k .carried) (carried-grown d e (m .grown)));
-      place = placed a d e q (key-term (d .words .now) (c .gather-moved .result)) (root-term a (c .args .head) q (c .args .from)) (c .intern-2 .result)
-          (gathered-term a d (c .args .head) (c .args .from) q r (c .gather-moved .result) (c .gather-moved .ensures) (omega arith) (omega arith) second)
+      carried = carried-then a b e (carried-grown a b (c .intern .ensures .grown))
+          (carried-then b d e (k .carried) (carried-grown d e (m .grown)));
+      place = placed a d e q (key-term (d .words .now) key) (root-term a head q order from1) (c .intern-2 .result)
+          (gathered-term a d head from1 q r order key (c .gather-moved .ensures) (omega arith) (omega arith) second)
           room count (k .limit) (m .place);
     }

@@ -14,7 +14,8 @@ pub returns : need.returns
 returns c =
     let a = c .args .self .now in let vs = a .words .now in let i = c .args .p .0 in let s = c .pre .0 in
     let h = c .kind-head .result + 34359738368 in
-    let e : h ≡ kind-of (cell vs i 0) + 34359738368 = ap (λ (x : ℕ). x + 34359738368) (c .kind-head .ensures ∙ ap kind-of (c .cell .ensures)) in
+    let e : h ≡ kind-of (cell vs i 0) + 34359738368 =
+    ap (λ (x : ℕ). x + 34359738368) (c .kind-head .ensures ∙ ap kind-of (c .cell .ensures)) in
     let f = flagged vs (c .put .last .ws) (a .count) (a .mask) i h (s .shared) (s .chains) e (c .put .ensures) (omega arith) in
     record {
       sound = record {

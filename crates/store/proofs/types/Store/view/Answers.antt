@@ -1,6 +1,6 @@
 -- The term of a slot is the node of its kind.
 use mathlib.Core.Path.{_≡_, sym, _∙_, ap}
-use Prim.Native.Nat.{ℕ, _+_, _-_, _≤_}
+use Prim.Native.Nat.{_+_, _-_, _≤_}
 use native.Mathlib.Omega.{arith}
 use Rattle.store.specs.Slots.{kind-of, kind-at, tag-of, symbol-of}
 use Rattle.store.proofs.Decoding.{term-is}

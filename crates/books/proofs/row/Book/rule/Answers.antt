@@ -1,6 +1,6 @@
 -- The sides stand where the layout says.
-use Rattle.engine.proofs.Bookish.{rule-at}
-use Rattle.engine.proofs.types.Book.rule.Needs as need
+use Rattle.books.proofs.Bookish.{rule-at}
+use Rattle.books.proofs.row.Book.rule.Needs as need
 
 pub returns : need.returns
 returns c =

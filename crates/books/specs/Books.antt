@@ -7,10 +7,10 @@ use lib.ListN.{length, getD}
 use Rattle.rewriting.specs.Terms.{nth, letter}
 use Rattle.rewriting.specs.Rules.{Eq}
 use Rattle.rewriting.specs.Books.{Book as Told}
 use Rattle.books.specs.Rows.{Reads}
 use Rattle.books.specs.Reading.{book-of, Term-at}
 use Rattle.books.specs.Layouts.{Laid}
-use Rattle.engine.specs.declared.types.Book.{Book}
+use Rattle.books.specs.declared.row.Book.{Book}
 
 -- the book that the words say
 abbrev pub told : Book → Told
