@@ -55,7 +55,9 @@ mod tests {
     fn rules_that_do_not(rt: LibcRuntime) -> Result<(), Fail> {
         let heap = rt.alloc();
         check(up(&numbers(heap, 1, &[0, 0, 0, 0])?) == Some(Some(0))).note("x -> x")?;
-        check(up(&numbers(heap, 1, &[1, 0, 1, 1, 1, 0])?) == Some(Some(0))).note("zero -> next(zero)")?;
+        check(up(&numbers(heap, 1, &[1, 0, 1, 1, 1, 0])?) == Some(Some(0))).note(
+            "zero -> next(zero)",
+        )?;
         let turned = [1, 2, 0, 0, 0, 1, 1, 2, 0, 1, 0, 0];
         check(up(&numbers(heap, 1, &turned)?) == Some(Some(0))).note("plus(x, y) -> plus(y, x)")?;
         // next(x) -> x goes down, zero -> zero does not
