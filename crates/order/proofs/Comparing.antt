@@ -1,19 +1,19 @@
 -- Comparing terms where they stand.
 use mathlib.Core.Path.{_≡_, refl, sym, _∙_, ap, subst}
-use mathlib.Core.Bool.{Bool, true, false}
-use mathlib.Core.List.{List, [], _∷_, _++_, append-nil}
-use mathlib.Core.Logic.{_⊎_, inl, inr}
-use Prim.Native.Nat.{ℕ, zero, suc, _+_, _*_, _-_, _<_, _≤_}
+use mathlib.Core.Bool.{true, false}
+use mathlib.Core.List.{List, [], _++_}
+use mathlib.Core.Logic.{inl, inr}
+use Prim.Native.Nat.{ℕ, _+_, _*_, _-_, _<_}
 use native.Mathlib.Omega.{arith}
-use lib.ListN.{length, getD, take, drop, length-drop}
+use lib.ListN.{getD, take, drop, length-drop}
 use Rattle.std.proofs.shelf.Lists.{getD-drop, take-more-same}
 use Rattle.rewriting.specs.Terms.{Term, Terms, none1, and1, count, size, Fits, Small-letter}
-use Rattle.rewriting.specs.Order.{Rank, Greater, Grounded, grounded, First-greater, here, further}
+use Rattle.rewriting.specs.Order.{Rank, Greater, Grounded, grounded, First-greater, further}
 use Rattle.rewriting.proofs.Grounding.{order-ends}
 use Rattle.rewriting.proofs.Signature.{over-fits}
 use Rattle.books.specs.Rows.{row}
 use Rattle.order.specs.declared.terms.Comparison.{Comparison}
-use Rattle.order.specs.Comparing.{room, by, Stands, Stand, Ends, Equates, Compares, Same-first, Skips, Differ-at}
+use Rattle.order.specs.Comparing.{room, by, Stand, Ends, Equates, Same-first, Skips, Differ-at}
 use Rattle.order.proofs.Telling.{tells-yes, tells-no, tells-through, first-none, first-cases, first-here}
 use Rattle.order.proofs.Standing.{row-once, first-stands, others-stand, words-of, word-at}
 use Rattle.std.specs.declared.option.Option.the-variants.{Some, None}

@@ -1,18 +1,17 @@
 -- The order's cases, where the terms stand.
 use mathlib.Core.Path.{_≡_, refl, sym, _∙_, ap, subst}
 use mathlib.Core.Bool.{Bool, true, false}
-use mathlib.Core.List.{List}
-use mathlib.Core.Logic.{_⊎_, inl, inr}
-use Prim.Native.Nat.{ℕ, _+_, _-_, _*_, _<_, _≤_}
+use mathlib.Core.Logic.{inl, inr}
+use Prim.Native.Nat.{ℕ, _+_, _-_, _<_}
 use native.Mathlib.Omega.{arith}
 use lib.ListN.{getD}
-use Rattle.rewriting.specs.Terms.{Term, letter, sign, Terms, none1, and1, count, size}
-use Rattle.rewriting.specs.Order.{Greater, by-part, Some-at-least, this-more, All-less, none-there, First-greater}
+use Rattle.rewriting.specs.Terms.{Term, letter, sign, Terms, none1, and1}
+use Rattle.rewriting.specs.Order.{Greater, by-part, Some-at-least, this-more, none-there, First-greater}
 use Rattle.rewriting.specs.Answers.{Tells}
 use Rattle.order.specs.declared.terms.Comparison.{Comparison}
 use Rattle.order.specs.declared.terms.Head.the-variants.{Letter, Sign}
-use Rattle.order.specs.Comparing.{room, by, Stands, Stand, Headed, Ends, Equates, Compares, Covers, Exceeds, Differ-at, Before, Precedes}
-use Rattle.order.proofs.Telling.{tells-yes, tells-no, tells-through, some-none, some-is, some-later, all-not, all-later}
+use Rattle.order.specs.Comparing.{by, Stands, Stand, Headed, Ends, Equates, Compares, Covers, Exceeds, Before, Precedes}
+use Rattle.order.proofs.Telling.{tells-yes, tells-through, some-none, some-is, some-later, all-not, all-later}
 use Rattle.order.proofs.Telling.{greater-letter, greater-than-letter, greater-not-before, greater-before}
 use Rattle.order.proofs.Standing.{first-stands, others-stand}
 use Rattle.std.specs.declared.option.Option.the-variants.{Some, None}

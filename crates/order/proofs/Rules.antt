@@ -1,25 +1,24 @@
 -- A rule's sides in the words that are compared.
-use mathlib.Core.Path.{_≡_, refl, sym, _∙_, ap, ap₂, subst}
+use mathlib.Core.Path.{_≡_, sym, _∙_, ap, ap₂, subst}
 use mathlib.Core.Bool.{Bool}
-use mathlib.Core.List.{List, _++_}
+use mathlib.Core.List.{List}
 use mathlib.Core.Option.{some}
 use Prim.Native.Nat.{ℕ, _+_, _*_, _-_, _/_, _<_, _≤_}
 use native.Mathlib.Omega.{arith}
 use lib.ListN.{length, take, drop, length-drop}
 use Rattle.std.proofs.shelf.Lists.{drop-drop, take-rest}
-use Rattle.rewriting.specs.Terms.{nth, Term, size, Ok}
+use Rattle.rewriting.specs.Terms.{Term, Ok}
 use Rattle.rewriting.specs.Rules.{Eq}
 use Rattle.rewriting.specs.Order.{rank, Greater, All-down}
 use Rattle.rewriting.specs.Answers.{Tells}
-use Rattle.books.specs.Rows.{row}
-use Rattle.books.specs.Reading.{parts-of, ranks-of, signs-of}
+use Rattle.books.specs.Reading.{signs-of}
 use Rattle.books.specs.Books.{told, Sound-book, rule-in, Rule-at}
 use Rattle.books.specs.declared.row.Book.{Book}
 use Rattle.books.proofs.Heads.{head-of}
 use Rattle.books.proofs.Elements.{nth-below}
 use Rattle.books.proofs.Bookish.{is-rule, rule-sides}
 use Rattle.order.specs.declared.terms.Comparison.{Comparison}
-use Rattle.order.specs.Comparing.{room, Stands, Compares}
+use Rattle.order.specs.Comparing.{Stands, Compares}
 use Rattle.order.specs.Downward.{Goes-down, Down-before}
 
 module _ (k : Book) (sound : Sound-book k) where

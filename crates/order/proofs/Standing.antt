@@ -1,19 +1,19 @@
 -- Terms that stand in words: where their parts stand and where they end.
-use mathlib.Core.Path.{_≡_, refl, sym, _∙_, ap, ap₂, subst}
+use mathlib.Core.Path.{_≡_, refl, sym, _∙_, ap, subst}
 use mathlib.Core.List.{List, [], _∷_, _++_, append-assoc, append-nil}
-use Prim.Native.Nat.{ℕ, zero, suc, _+_, _*_, _-_, _<_, _≤_}
+use Prim.Native.Nat.{ℕ, zero, suc, _+_, _*_, _<_, _≤_}
 use native.Mathlib.Omega.{arith}
 use lib.ListN.{length, getD, take, drop, length-drop, length-append}
-use Rattle.std.proofs.shelf.Lists.{getD-drop, drop-drop, drop-at, take-at, getD-append-left, getD-past}
-use Rattle.rewriting.specs.Terms.{nth, Term, letter, sign, Terms, none1, and1, count, size, sizes, Over, Small-letter}
+use Rattle.std.proofs.shelf.Lists.{getD-drop, drop-drop, drop-at, take-at, getD-append-left}
+use Rattle.rewriting.specs.Terms.{Term, letter, sign, Terms, none1, and1, count, size, Over, Small-letter}
 use Rattle.rewriting.specs.Order.{rank}
 use Rattle.rewriting.proofs.Glueing.{size-some}
 use Rattle.books.specs.Rows.{row, rows}
-use Rattle.books.specs.Reading.{Symbol-at, Term-at, Term-end}
+use Rattle.books.specs.Reading.{Symbol-at, Term-end}
 use Rattle.books.specs.declared.words.Letters.the-variants.{Small}
 use Rattle.books.specs.declared.words.Symbol.the-variants.{Letter as Letter-symbol, Sign as Sign-symbol}
 use Rattle.books.proofs.Elements.{nth-is}
-use Rattle.books.proofs.Glueing.{row-length, rows-length}
+use Rattle.books.proofs.Glueing.{row-length}
 use Rattle.books.proofs.Unique.{rows-once}
 use Rattle.order.specs.declared.terms.Comparison.{Comparison}
 use Rattle.order.specs.Comparing.{room, Stands, Stand}
@@ -62,7 +62,8 @@ module _ (p : Comparison) (k : ℕ) where
   word : (t : Term) (s : Stands p k t) → getD (p .words .now) (2 * k) 0 ≡ getD (row t ++ s .rest) 0 0
   word t s =
       let z : 2 * k ≡ 2 * k + 0 = omega arith in
-      ap (λ (i : ℕ). getD (p .words .now) i 0) z ∙ (sym (getD-drop (2 * k) (p .words .now) 0 0) ∙ ap (λ (v : List ℕ). getD v 0 0) (s .written))
+      ap (λ (i : ℕ). getD (p .words .now) i 0) z
+      ∙ (sym (getD-drop (2 * k) (p .words .now) 0 0) ∙ ap (λ (v : List ℕ). getD v 0 0) (s .written))
 
   word2 : (t : Term) (s : Stands p k t) → getD (p .words .now) (2 * k + 1) 0 ≡ getD (row t ++ s .rest) 1 0
   word2 t s = sym (getD-drop (2 * k) (p .words .now) 1 0) ∙ ap (λ (v : List ℕ). getD v 1 0) (s .written)
@@ -71,7 +72,8 @@ module _ (p : Comparison) (k : ℕ) where
   no-symbol h (letter x) s = omega (arith, word (letter x) s, h (omega (arith, stands-room (letter x) s)))
   no-symbol h (sign f ts) s = omega (arith, word (sign f ts) s, h (omega (arith, stands-room (sign f ts) s)))
 
-  pub letter-stands : (x : ℕ) → Symbol-at (p .words .now) (2 * k) (Some (Letter-symbol x)) → (t : Term) → Stands p k t → (y : ℕ) × (t ≡ letter y)
+  pub letter-stands : (x : ℕ) → Symbol-at (p .words .now) (2 * k) (Some (Letter-symbol x)) → (t : Term) → Stands p k t →
+      (y : ℕ) × (t ≡ letter y)
   letter-stands x h (letter y) s = (y, refl)
   letter-stands x h (sign f ts) s = absurd (omega (arith, word (sign f ts) s, h .1))
 
@@ -95,12 +97,14 @@ module _ (p : Comparison) (k : ℕ) where
       (ts, ap (λ (i : ℕ). sign i ts) d, parts-stand f n ts e (subst (λ (i : ℕ). Stands p k (sign i ts)) d s))
 
   -- where it ends
-  pub end-of : (z : ℕ) → Term-end Small (p .parts .now) (p .words .now) (2 * k) (Some z) → (t : Term) → Stands p k t → z ≡ 2 * k + 2 * size t
+  pub end-of : (z : ℕ) → Term-end Small (p .parts .now) (p .words .now) (2 * k) (Some z) → (t : Term) → Stands p k t →
+      z ≡ 2 * k + 2 * size t
   end-of z (u, o, a) t s =
       let e : u ≡ t = row-once (p .parts .now) u t (drop z (p .words .now)) (s .rest) o (s .over) (sym (a .written) ∙ s .written) in
       a .long ∙ ap (λ (v : Term). 2 * k + 2 * size v) e
 
-  pub end-room : (z : ℕ) → Term-end Small (p .parts .now) (p .words .now) (2 * k) (Some z) → (n : ℕ) × (z ≡ 2 * k + 2 * n) × (1 ≤ n) × (z ≤ room p)
+  pub end-room : (z : ℕ) → Term-end Small (p .parts .now) (p .words .now) (2 * k) (Some z) →
+      (n : ℕ) × (z ≡ 2 * k + 2 * n) × (1 ≤ n) × (z ≤ room p)
   end-room z (u, o, a) = (size u, a .long, size-some u, a .within)
 
   -- its words
@@ -110,4 +114,5 @@ module _ (p : Comparison) (k : ℕ) where
   pub word-at : (i : ℕ) (t : Term) → Stands p k t → i < 2 * size t → getD (p .words .now) (2 * k + i) 0 ≡ getD (row t) i 0
   word-at i t s h =
       let low : i < length (row t) = omega (arith, row-length t) in
-      sym (getD-drop (2 * k) (p .words .now) i 0) ∙ (ap (λ (v : List ℕ). getD v i 0) (s .written) ∙ getD-append-left (row t) (s .rest) 0 i low)
+      sym (getD-drop (2 * k) (p .words .now) i 0)
+      ∙ (ap (λ (v : List ℕ). getD v i 0) (s .written) ∙ getD-append-left (row t) (s .rest) 0 i low)

@@ -1,8 +1,8 @@
 -- A table stays truthful.
-use mathlib.Core.Path.{_≡_, refl, sym, _∙_, ap, subst}
+use mathlib.Core.Path.{_≡_, sym, _∙_, ap}
 use mathlib.Core.Bool.{Bool}
 use mathlib.Core.List.{List}
-use mathlib.Core.Logic.{_⊎_, inl, inr, _≢_}
+use mathlib.Core.Logic.{inl, inr}
 use Prim.Native.Nat.{ℕ, _+_, _*_, _<_, _≤_}
 use native.Mathlib.Omega.{arith}
 use native.Mathlib.Decide.{ℕ-discrete, decLt}
@@ -36,7 +36,8 @@ module _ (p : Comparison) (tb new : Table) (k j : ℕ) (b : Bool) (told : Compar
       aux (yes low) = let z = sym (getD-set-same xs i (Some b) None low) ∙ is in cc
       aux (no high) =
           let past : length xs ≤ i = omega arith in
-          absurd (none-some (sym (getD-past xs i None past) ∙ (ap (λ (v : List (Maybe Bool)). getD v i None) (sym (set-past xs i (Some b) past)) ∙ is)))
+          absurd (none-some (sym (getD-past xs i None past)
+          ∙ (ap (λ (v : List (Maybe Bool)). getD v i None) (sym (set-past xs i (Some b) past)) ∙ is)))
 
   at-cell : Celled k j → new .answers ≡ set (tb .answers) (64 * k + j) (Some b) → Truthful p tb → Truthful p new
   at-cell h e truth m n d g is = aux (ℕ-discrete (64 * m + n) (64 * k + j))

@@ -1,13 +1,12 @@
 -- Exact answers on the order, from exact answers on the parts.
-use mathlib.Core.Path.{_≡_, refl, sym, _∙_, ap, subst}
+use mathlib.Core.Path.{_≡_, refl, sym, subst}
 use mathlib.Core.Bool.{Bool, true, false}
 use mathlib.Core.Logic.{_⊎_, inl, inr}
-use Prim.Native.Nat.{ℕ, _<_, _≤_}
-use native.Mathlib.Omega.{arith}
+use Prim.Native.Nat.{ℕ}
 use borrow.Author.Tests.{clash}
 use Rattle.rewriting.specs.Terms.{Term, letter, sign, Terms, none1, and1}
 use Rattle.rewriting.specs.Order.{Rank, Greater, by-part, by-sign, by-order, Some-at-least, this-is, this-more, later}
-use Rattle.rewriting.specs.Order.{All-less, none-there, this-less, First-greater, here, further}
+use Rattle.rewriting.specs.Order.{All-less, this-less, First-greater, here, further}
 use Rattle.rewriting.specs.Answers.{Tells}
 use Rattle.order.specs.Comparing.{Before}
 
@@ -54,14 +53,11 @@ module _ {rk : Rank} where
   all-later g = tells-through (λ a. this-less g a) less-rest
 
   -- the first terms that differ
-  none-first : {us : Terms} → First-greater rk none1 us → ⊥
-  none-first o = elim o [ ]
-
   pub first-none : {us : Terms} → First-greater rk none1 us → ⊥
-  first-none = none-first
+  first-none o = elim o [ ]
 
-  -- nothing is greater than itself among the first terms, or else it is found there
-  pub first-cases : {t u : Term} {ts us : Terms} → First-greater rk (and1 t ts) (and1 u us) → Greater rk t u ⊎ ((t ≡ u) × First-greater rk ts us)
+  pub first-cases : {t u : Term} {ts us : Terms} → First-greater rk (and1 t ts) (and1 u us) →
+      Greater rk t u ⊎ ((t ≡ u) × First-greater rk ts us)
   first-cases (here g) = inl g
   first-cases (further o) = inr (refl, o)
 
@@ -102,5 +98,6 @@ module _ {rk : Rank} where
     pub greater-not-before : (Before rk f g ts us → ⊥) → Tells false (Greater rk (sign f ts) (sign g us))
     greater-not-before m = tells-no λ g. m (over-both g .0)
 
-    pub greater-before : {r : Bool} → Before rk f g ts us → Tells r (All-less rk (sign f ts) us) → Tells r (Greater rk (sign f ts) (sign g us))
+    pub greater-before : {r : Bool} → Before rk f g ts us → Tells r (All-less rk (sign f ts) us) →
+        Tells r (Greater rk (sign f ts) (sign g us))
     greater-before b = tells-through (from-before b) (λ g. over-both g .1)

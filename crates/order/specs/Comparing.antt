@@ -5,7 +5,7 @@ use mathlib.Core.List.{List, _++_}
 use mathlib.Core.Logic.{_⊎_}
 use Prim.Native.Nat.{ℕ, _+_, _*_, _<_, _≤_}
 use lib.ListN.{length, getD, drop}
-use Rattle.rewriting.specs.Terms.{Term, letter, sign, Terms, none1, and1, count, size, Ok, All-over, Small-letter}
+use Rattle.rewriting.specs.Terms.{Term, letter, sign, Terms, count, size, Ok, All-over, Small-letter}
 use Rattle.rewriting.specs.Order.{Rank, rank, Greater, Some-at-least, All-less, First-greater}
 use Rattle.rewriting.specs.Answers.{Tells}
 use Rattle.books.specs.Rows.{row, rows}

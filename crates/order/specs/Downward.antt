@@ -1,5 +1,4 @@
 -- Which rules of a book go down.
-use mathlib.Core.Path.{_≡_}
 use Prim.Native.Nat.{ℕ, _<_}
 use lib.ListN.{length}
 use Rattle.rewriting.specs.Order.{rank, Greater, All-down}

@@ -1,6 +1,5 @@
 // The lexicographic path order on the terms of a rule.
-ghost use mathlib.Core.Path.{_≡_};
-ghost use Prim.Native.Nat.{_+_, _*_, _<_, _≤_};
+ghost use Prim.Native.Nat.{_+_, _*_, _≤_};
 ghost use Rattle.order.specs.Comparing.{room, Compares, Covers, Exceeds, Precedes, Truthful};
 use crate::table::Table;
 use crate::terms::Comparison;

@@ -1,7 +1,7 @@
 // The terms that stand in a rule's words, each by the number of its first symbol.
 ghost use mathlib.Core.Path.{_≡_};
 ghost use Prim.Native.Nat.{_+_, _*_, _<_, _≤_};
-ghost use lib.ListN.{length, getD};
+ghost use lib.ListN.{getD};
 ghost use Rattle.rewriting.specs.Order.{rank};
 ghost use Rattle.order.specs.Comparing.{room, Headed, Ends, Equates};
 ghost use Rattle.order.specs.Comparing.{Differ-at as DifferAt};

@@ -1,7 +1,5 @@
 -- The rules so far go down.
-use Prim.Native.Nat.{_-_, _≤_}
-use lib.ListN.{length}
-use Rattle.books.specs.Books.{told}
+use Prim.Native.Nat.{_-_}
 use Rattle.order.specs.Downward.{Down-before}
 use Rattle.order.proofs.down.first_up.Given as given
 

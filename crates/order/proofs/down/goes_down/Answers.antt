@@ -6,10 +6,12 @@ use Rattle.order.proofs.Rules.{signature-within, right-within, rule-told}
 use Rattle.order.proofs.down.goes_down.Needs as need
 
 pub part-comparison-end-2 : need.part-comparison-end-2
-part-comparison-end-2 c = omega (arith, signature-within (c .args .book .now) (c .pre .0) (c .signs-signs .result) (c .signs-signs .ensures))
+part-comparison-end-2 c =
+    omega (arith, signature-within (c .args .book .now) (c .pre .0) (c .signs-signs .result) (c .signs-signs .ensures))
 
 pub part-comparison-end-3 : need.part-comparison-end-3
-part-comparison-end-3 c = omega (arith, signature-within (c .args .book .now) (c .pre .0) (c .signs-signs .result) (c .signs-signs .ensures))
+part-comparison-end-3 c =
+    omega (arith, signature-within (c .args .book .now) (c .pre .0) (c .signs-signs .result) (c .signs-signs .ensures))
 
 pub greater-requires : need.greater-requires
 greater-requires c κs = (

@@ -4,8 +4,8 @@ use Rattle.order.proofs.Comparing.{skips-next, skips-end, skips-differ, skips-
 use Rattle.order.proofs.terms.Comparison.first_difference.Needs as need
 
 pub loop-left-again : need.loop-left-again
-loop-left-again c = skips-next (c .args .self .now) (c .args .n) (c .args .k) (c .args .j) (c .loop-left .left) (c .loop-left .a) (c .loop-left .b)
-    (c .loop-left .inv) (omega arith) (c .in-Some .c) (c .in-Some-end .d) _ (c .if-not-same .ensures tt)
+loop-left-again c = skips-next (c .args .self .now) (c .args .n) (c .args .k) (c .args .j) (c .loop-left .left) (c .loop-left .a)
+    (c .loop-left .b) (c .loop-left .inv) (omega arith) (c .in-Some .c) (c .in-Some-end .d) _ (c .if-not-same .ensures tt)
     (c .in-Some .ensures tt) (c .in-Some-end .ensures tt) (omega arith)
 
 pub returns-then-left-eq0 : need.returns-then-left-eq0
