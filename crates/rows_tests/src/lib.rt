@@ -80,8 +80,13 @@ mod tests {
         read_book(&words).is_some()
     }
 
-    // A book of as many signs without parts, and as many equations of the first with itself.
-    fn constants(heap: Global, signs: u32, equations: u32) -> Result<Vec<u32>, AllocError> {
+    // A book of as many signs without parts, and as many equations and rules of the first with itself.
+    fn constants(
+        heap: Global,
+        signs: u32,
+        equations: u32,
+        rules: u32,
+    ) -> Result<Vec<u32>, AllocError> {
         let mut words = vec![in heap; signs]?;
         for _ in 0..signs {
             words.push(0)?;
@@ -89,8 +94,11 @@ mod tests {
         for rank in 0..signs {
             words.push(rank)?;
         }
-        words.extend_from_slice(&[equations, 0])?;
+        words.extend_from_slice(&[equations, rules])?;
         for _ in 0..equations {
+            words.extend_from_slice(&[1, 0, 1, 0])?;
+        }
+        for _ in 0..rules {
             words.extend_from_slice(&[1, 0, 1, 0])?;
         }
         Ok(words)
@@ -145,9 +153,10 @@ mod tests {
     #[test]
     fn bounds_of_books(rt: LibcRuntime) -> Result<(), Fail> {
         let heap = rt.alloc();
-        check(read_book(&constants(heap, 32, 64)?).is_some())?;
-        check(read_book(&constants(heap, 33, 1)?).is_none()).note("33 signs")?;
-        check(read_book(&constants(heap, 1, 65)?).is_none()).note("65 equations")?;
+        check(read_book(&constants(heap, 32, 64, 64)?).is_some())?;
+        check(read_book(&constants(heap, 33, 1, 1)?).is_none()).note("33 signs")?;
+        check(read_book(&constants(heap, 1, 65, 1)?).is_none()).note("65 equations")?;
+        check(read_book(&constants(heap, 1, 1, 65)?).is_none()).note("65 rules")?;
         check(read_book(&tower(heap, 31)?).is_some())?;
         check(read_book(&tower(heap, 32)?).is_none()).note("a side of 33")
     }
