@@ -2,3 +2,4 @@
 pub mod Matching
 pub mod Building
 pub mod Rewriting
+pub mod Frames

@@ -1,6 +1,7 @@
 // Rewriting over the store of shared terms.
 mod bindings;
 mod built;
+mod frames;
 mod instance;
 mod matching;
 mod pending;
