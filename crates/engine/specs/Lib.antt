@@ -3,3 +3,5 @@ pub mod Matching
 pub mod Building
 pub mod Rewriting
 pub mod Frames
+pub mod Running
+pub mod Turning

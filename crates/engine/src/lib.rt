@@ -6,4 +6,5 @@ mod instance;
 mod matching;
 mod pending;
 pub mod rules;
+mod turns;
 pub mod types;
