@@ -46,7 +46,7 @@ module _ (rs : List Eq) (st : Store) (p : Place) where
   by-step su q h r = record { holding = holding-grown rs st su h (r .sound) (r .grown); result = r .result }
 
   pub by-none : (su : Store) → Honest rs st → Rewritten rs st p su None → Advanced rs st p su None
-  by-none su h r = record { holding = holding-grown rs st su h (r .sound) (r .grown); result = r .result .0 }
+  by-none su h r = record { holding = holding-grown rs st su h (r .sound) (r .grown); result = r .result }
 
   pub apply-some : (su : Store) (c : Focus) → Advanced rs st p su (Some c) → Applied rs st p su c
   apply-some su c a = record { holding = a .holding; result = a .result }
@@ -56,13 +56,13 @@ module _ (rs : List Eq) (st : Store) (p : Place) where
   apply-none su sv d l a f =
       let low : p .0 < su .count = omega (arith, a .holding .longer) in
       let h = holding-flag rs su sv (p .0) (a .holding .honest)
-      (subst (Done rs) (sym (a .holding .terms (p .0) l)) (d (a .result))) low f in
+      (subst (Done rs) (sym (a .holding .terms (p .0) l)) (d (a .result .0))) low f in
       let k = holding-on rs st su sv (a .holding) h in
       record {
         holding = k;
         result = record {
           inside = omega (arith, h .longer);
           steps = subst (Steps rs (term-in st (p .0))) (sym (k .terms (p .0) l)) stay;
-          done = subst (Done rs) (sym (k .terms (p .0) l)) (d (a .result));
+          done = subst (Done rs) (sym (k .terms (p .0) l)) (d (a .result .0));
         };
       }

@@ -26,6 +26,7 @@ use Rattle.engine.specs.Frames.{frame-at, Asked-by, Frame-pushed}
 use Rattle.engine.specs.Running.{run, frames-of, Framed, frames-in, state-in, Asks, Asked-for, Running}
 use Rattle.engine.specs.Turning.{Space-for-turn, Turned-to, Others-pushed}
 use Rattle.engine.proofs.Contexts.{run-shift, run-by, frames-top, framed-top, frames-same, framed-same, framed-low, frames-length, asks-map}
+use Rattle.engine.proofs.Advancing.{holding-same}
 use Rattle.engine.proofs.Going.{asked-less}
 
 -- a word that remembers a place
@@ -138,6 +139,7 @@ module _ (rs : List Eq) (low : ℕ) (st : Store) (q : Roots) (fr : Frames) (p : 
 
   pub gone-in : Turned-to rs low st q fr (Eval p) st r gr (Eval first)
   gone-in = record {
+    holding = holding-same rs st p (run1 .sound) (run1 .honest);
     running = running;
     goes = (
       state-in st r gr (Eval first),

@@ -1,5 +1,5 @@
 -- Turns: a change of the store under the frames, and one of the focus.
-use mathlib.Core.Path.{_≡_, refl, sym, _∙_, ap, subst}
+use mathlib.Core.Path.{_≡_, refl, sym, _∙_, ap, ap₂, subst}
 use mathlib.Core.List.{List, []}
 use Prim.Native.Nat.{ℕ, suc, _+_, _-_, _<_, _≤_}
 use native.Mathlib.Omega.{arith}
@@ -22,7 +22,8 @@ use Rattle.engine.specs.declared.types.Focus.the-variants.{Eval, Back}
 use Rattle.engine.specs.Frames.{frame-at}
 use Rattle.engine.specs.Running.{focus-place, focus-of, frames-in, state-in, Asks, Asked-for, Running, Holding}
 use Rattle.engine.specs.Turning.{Comes-to, Goes, Kept-below, Turned-to}
-use Rattle.engine.proofs.Contexts.{frames-same, asks-map, asks-steps}
+use Rattle.engine.proofs.Honesty.{holding-on}
+use Rattle.engine.proofs.Contexts.{frames-same, framed-low, asks-map, asks-steps}
 
 module _ (rs : List Eq) where
   -- what is asked for
@@ -99,6 +100,7 @@ module _ (rs : List Eq) where
       let t = term-in st (p .0) in
       let ks = frames-in st q fr in
       record {
+        holding = h;
         running = running-to st su h low q fr (Eval p) r e (comes-inside t su e b) (comes-steps t su e b);
         goes = (
           state-in su q fr e,
@@ -111,5 +113,34 @@ module _ (rs : List Eq) where
           cells = refl;
           words = refl;
           terms = λ k m. h .terms (root-in q k) (r .inside .low k (omega arith));
+        };
+      }
+
+  -- with a store that holds the same terms
+  focus-holding : (su sv : Store) → Holding rs su sv → (e : Focus) → focus-place e < su .count → focus-of sv e ≡ focus-of su e
+  focus-holding su sv h (Eval p) l = ap eval (h .terms (p .0) l)
+  focus-holding su sv h (Back p) l = ap back (h .terms (p .0) l)
+
+  pub turned-holding : (low : ℕ) (st : Store) (q : Roots) (fr : Frames) (c : Focus) (su : Store) (r : Roots) (gr : Frames) (e : Focus)
+      (sv : Store) → Turned-to rs low st q fr c su r gr e → Holding rs su sv → Turned-to rs low st q fr c sv r gr e
+  turned-holding low st q fr c su r gr e sv t h =
+      let x = t .running in
+      let i = focus-place e in
+      record {
+        holding = holding-on rs st su sv (t .holding) h;
+        running = running-to su sv h low r gr e x e (omega (arith, h .longer, x .focus))
+            (subst (Steps rs (term-in su i)) (sym (h .terms i (x .focus))) stay);
+        goes = (
+          t .goes .0,
+          t .goes .1,
+          subst (Moves rs (t .goes .0)) (ap₂ state (sym (frames-holding su sv h low r gr e x)) (sym (focus-holding su sv h e (x .focus))))
+              (t .goes .2),
+        );
+        kept = record {
+          room = h .room ∙ t .kept .room;
+          cells = t .kept .cells;
+          words = t .kept .words;
+          terms = λ k l. h .terms (root-in r k) (x .inside .low k
+              (omega (arith, framed-low (gr .words .now) (gr .depth) (r .top) low (x .framed)))) ∙ t .kept .terms k l;
         };
       }

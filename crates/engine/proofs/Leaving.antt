@@ -31,7 +31,7 @@ use Rattle.engine.proofs.Pendings.{zero-place}
 use Rattle.engine.proofs.Honesty.{holding-grown, holding-on}
 use Rattle.engine.proofs.Contexts.{run-shift, run-by, run-behind, frames-same, framed-same, framed-low, frames-length, asks-map, asks-steps}
 use Rattle.engine.proofs.Going.{asked-less, asked-on, asked-holding, comes-inside, comes-steps, comes-apply}
-use Rattle.engine.proofs.Onward.{top-at, depth-more, framed-more}
+use Rattle.engine.proofs.Onward.{depth-more, framed-more}
 
 module _ (b : Book) (low : ℕ) (st : Store) (q : Roots) (fr : Frames) (v : Place) (ready : Ready b low st q fr (Back v))
     (pos : 0 < fr .depth) where
@@ -169,6 +169,7 @@ module _ (b : Book) (low : ℕ) (st : Store) (q : Roots) (fr : Frames) (v : Plac
 
         pub gone-out : Turned-to rs low st q fr (Back v) sv r gr e
         gone-out = record {
+          holding = hold;
           running = running;
           goes = (
             state ks (apply (x .sign) (behind bs tv)),

@@ -11,3 +11,4 @@ pub mod Going
 pub mod Entering
 pub mod Onward
 pub mod Leaving
+pub mod Turned

@@ -24,6 +24,7 @@ use Rattle.engine.specs.Running.{run, frames-of, Framed, frames-in, state-in, 
 use Rattle.engine.specs.Turning.{Turned-to}
 use Rattle.engine.proofs.Contexts.{run-same, run-behind, run-first, frames-top, framed-top, frames-same, framed-same, framed-low}
 use Rattle.engine.proofs.Contexts.{frames-length, asks-map}
+use Rattle.engine.proofs.Advancing.{holding-same}
 use Rattle.engine.proofs.Going.{asked-less}
 use Rattle.engine.proofs.Entering.{asked-new}
 
@@ -156,6 +157,7 @@ module _ (rs : List Eq) (low : ℕ) (st : Store) (q : Roots) (fr : Frames) (v : 
 
     pub gone-on : Turned-to rs low st q fr (Back v) st r gr (Eval next)
     gone-on = record {
+      holding = holding-same rs st v (run1 .sound) (run1 .honest);
       running = running;
       goes = (
         state-in st r gr (Eval next),

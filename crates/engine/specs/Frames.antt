@@ -61,3 +61,7 @@ pub record Popped (q r : Frames) : Type 0 where
   pub depth : r .depth + 1 ≡ q .depth
   pub fresh : r .fresh ≤ r .depth
   pub later : (d : ℕ) → r .fresh ≤ d → d < r .depth → q .fresh ≤ d
+
+-- the word of what the top frame asked for, or 0
+abbrev pub Asked-top : Frames → ℕ → Type 0
+Asked-top q w = 0 < w → (q .fresh ≤ q .depth - 1) × (w ≡ frame-at (q .words .now) (q .depth - 1) .asked)

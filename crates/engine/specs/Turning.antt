@@ -18,6 +18,7 @@ use Rattle.store.specs.Stacks.{root-in}
 use Rattle.store.specs.Roots.{Has-roots}
 use Rattle.books.specs.declared.row.Book.{Book}
 use Rattle.books.specs.Books.{told, Sound-book}
+use Rattle.engine.specs.declared.types.Frame.{Frame}
 use Rattle.engine.specs.declared.types.Frames.{Frames}
 use Rattle.engine.specs.declared.types.Focus.{Focus}
 use Rattle.engine.specs.declared.types.Focus.the-variants.{Eval, Back}
@@ -35,13 +36,13 @@ abbrev pub Comes-to : List Eq → Term → Store → Focus → Type 0
 Comes-to rs t su (Eval q) = By-rule rs t su q
 Comes-to rs t su (Back q) = Normal-at rs t su q
 
-abbrev pub Comes-or-still : List Eq → Term → Store → Maybe Focus → Type 0
-Comes-or-still rs t su (Some c) = Comes-to rs t su c
-Comes-or-still rs t su None = Still rs t
+abbrev pub Comes-or-still : List Eq → Store → Place → Store → Maybe Focus → Type 0
+Comes-or-still rs st p su (Some c) = Comes-to rs (term-in st (p .0)) su c
+Comes-or-still rs st p su None = Still rs (term-in st (p .0)) × (su ≡ st)
 
 pub record Advanced (rs : List Eq) (st : Store) (p : Place) (su : Store) (x : Maybe Focus) : Type 0 where
   pub holding : Holding rs st su
-  pub result : Comes-or-still rs (term-in st (p .0)) su x
+  pub result : Comes-or-still rs st p su x
 
 -- the same where the term's parts are normal forms
 pub record Applied (rs : List Eq) (st : Store) (p : Place) (su : Store) (c : Focus) : Type 0 where
@@ -75,9 +76,26 @@ pub record Kept-below (low : ℕ) (st : Store) (q : Roots) (fr : Frames) (su : S
 -- a turn was taken
 pub record Turned-to (rs : List Eq) (low : ℕ) (st : Store) (q : Roots) (fr : Frames) (c : Focus)
     (su : Store) (r : Roots) (gr : Frames) (e : Focus) : Type 0 where
+  pub holding : Holding rs st su
   pub running : Running rs low su r gr e
   pub goes : Goes rs (state-in st q fr c) (state-in su r gr e)
   pub kept : Kept-below low st q fr su r gr
+
+-- it can be taken, whatever is below; and was
+abbrev pub Can-turn : Book → Store → Roots → Frames → Focus → Type 0
+Can-turn k st q fr c = (low : ℕ) × Ready k low st q fr c
+
+abbrev pub Turns-from : Book → Store → Roots → Frames → Focus → Store → Roots → Frames → Focus → Type 0
+Turns-from k st q fr c su r gr e = (low : ℕ) → Ready k low st q fr c → Turned-to (told k .rules) low st q fr c su r gr e
+
+-- the top frame, and its roots
+pub record Top-frame (q : Roots) (fr : Frames) (k : Frame) : Type 0 where
+  pub some : 0 < fr .depth
+  pub long : 4 * fr .depth ≤ length (fr .words .now)
+  pub is : k ≡ frame-at (fr .words .now) (fr .depth - 1)
+  pub few : k .others ≤ 3
+  pub enough : k .others ≤ q .top
+  pub fits : Has-roots (q .cells .now) (q .top)
 
 -- the parts but the first are roots
 pub record Others-pushed (st : Store) (q : Roots) (p n : ℕ) (r : Roots) : Type 0 where

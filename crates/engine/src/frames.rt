@@ -10,6 +10,7 @@ ghost use Rattle.engine.specs.Frames.{Frame-pushed as FramePushed};
 ghost use Rattle.engine.specs.Frames.{Gone-on as GoneOn};
 ghost use Rattle.engine.specs.Frames.{frame-at as frameAt};
 ghost use Rattle.engine.specs.Frames.{Asked-by as AskedBy};
+ghost use Rattle.engine.specs.Frames.{Asked-top as AskedTop};
 use crate::types::Frame;
 use crate::types::Frames;
 use store::Place;
@@ -66,6 +67,18 @@ impl Frames<'_> {
             others: self.words[4 * d + 1],
             done: self.words[4 * d + 2],
             asked: self.words[4 * d + 3],
+        }
+    }
+
+    // What the top frame asked for, by its number and one; 0 if it is not known.
+    pub fn asked(&self) -> u32
+        requires { ⌜ 0 < now self .depth ⌝ ∗ ⌜ 4 * now self .depth ≤ length (now (now self .words)) ⌝ }
+        ensures { λ r. ⌜ AskedTop (now (self .entry)) r ⌝ }
+    {
+        if self.fresh < self.depth {
+            self.words[4 * (self.depth - 1) + 3]
+        } else {
+            0
         }
     }
 

@@ -12,13 +12,14 @@ ghost use Rattle.store.specs.Stores.{parts-in as partsIn};
 ghost use Rattle.store.specs.Roots.{Has-roots as HasRoots};
 ghost use Rattle.books.specs.Books.{told};
 ghost use Rattle.engine.specs.declared.types.Focus.the-variants.{Eval, Back};
-ghost use Rattle.engine.specs.Frames.{frame-at as frameAt};
 ghost use Rattle.engine.specs.Rewriting.{Rewritable};
 ghost use Rattle.engine.specs.Running.{Honest, Holding};
-ghost use Rattle.engine.specs.Turning.{Advanced, Applied, Ready};
+ghost use Rattle.engine.specs.Turning.{Advanced, Applied};
 ghost use Rattle.engine.specs.Turning.{Others-pushed as OthersPushed};
 ghost use Rattle.engine.specs.Turning.{Parts-gathered as PartsGathered};
-ghost use Rattle.engine.specs.Turning.{Turned-to as TurnedTo};
+ghost use Rattle.engine.specs.Turning.{Turns-from as TurnsFrom};
+ghost use Rattle.engine.specs.Turning.{Can-turn as CanTurn};
+ghost use Rattle.engine.specs.Turning.{Top-frame as TopFrame};
 ghost use Rattle.engine.specs.Turning.{Space-for-turn as SpaceForTurn};
 use crate::rules::rewrite;
 use crate::types::Focus;
@@ -80,8 +81,7 @@ fn go_in(store: &Store, roots: &mut Roots, frames: &mut Frames, p: Place, f: u32
     requires { ⌜ n ≤ 3 ⌝ ∗ ⌜ arityIn (now store) (p .0) ≡ n + 1 ⌝ ∗ ⌜ Sound (now store) ⌝ ∗ ⌜ p .0 < now store .count ⌝ }
     requires { ⌜ termIn (now store) (p .0) ≡ sign f (partsIn (now store) (p .0) (n + 1)) ⌝ }
     requires { ⌜ SpaceForTurn (now store) (now roots) (now frames) ⌝ }
-    ensures { λ r. ⌜ ((k : _) (low : ℕ) → Ready k low (now (store .entry)) (now (roots .entry)) (now (frames .entry)) (Eval p) →
-        TurnedTo (told k .rules) low (now (store .entry)) (now (roots .entry)) (now (frames .entry)) (Eval p)
+    ensures { λ r. ⌜ ((k : _) → TurnsFrom k (now (store .entry)) (now (roots .entry)) (now (frames .entry)) (Eval p)
         (now (store .entry)) (now (roots .exit)) (now (frames .exit)) r) ⌝ }
 {
     let first = store.part(p, 0);
@@ -101,4 +101,125 @@ fn gather_parts(roots: &Roots, from: usize, n: usize, v: Place) -> [Place; 4]
     }
     parts[n] = v;
     parts
+}
+
+// To the next part, with v in its place.
+fn go_on(roots: &mut Roots, frames: &mut Frames, frame: Frame, v: Place) -> Focus
+    requires { ⌜ TopFrame (now roots) (now frames) frame ⌝ ∗ ⌜ frame .done < frame .others ⌝ }
+    ensures { λ r. ⌜ ((k st : _) → TurnsFrom k st (now (roots .entry)) (now (frames .entry)) (Back v)
+        st (now (roots .exit)) (now (frames .exit)) r) ⌝ }
+{
+    let at = roots.top - frame.others as usize + frame.done as usize;
+    let next = roots.place(at);
+    roots.set(at, v);
+    frames.go_on(next);
+    Focus::Eval(next)
+}
+
+// Back to the sign, v being the last of its parts.
+fn go_out(
+    book: &Book,
+    store: &mut Store,
+    roots: &mut Roots,
+    frames: &mut Frames,
+    frame: Frame,
+    v: Place,
+) -> Focus
+    requires { ⌜ CanTurn (now book) (now store) (now roots) (now frames) (Back v) ⌝ }
+    requires { ⌜ now store .count + 33 ≤ now store .limit ⌝ ∗ ⌜ TopFrame (now roots) (now frames) frame ⌝ ∗ ⌜ frame .done ≡ frame .others ⌝ }
+    ensures { λ r. ⌜ TurnsFrom (now (book .entry)) (now (store .entry)) (now (roots .entry)) (now (frames .entry)) (Back v)
+        (now (store .exit)) (now (roots .exit)) (now (frames .exit)) r ⌝ }
+{
+    let n = frame.others as usize;
+    let from = roots.top - n;
+    let parts = gather_parts(roots, from, n, v);
+    let p = store.share_sign(frame.sign, parts, n + 1);
+    roots.truncate(from);
+    frames.pop();
+    apply(book, store, p)
+}
+
+// A normal form v goes to the top frame.
+fn go_back(
+    book: &Book,
+    store: &mut Store,
+    roots: &mut Roots,
+    frames: &mut Frames,
+    v: Place,
+) -> Focus
+    requires { ⌜ CanTurn (now book) (now store) (now roots) (now frames) (Back v) ⌝ }
+    requires { ⌜ now store .count + 33 ≤ now store .limit ⌝ ∗ ⌜ 0 < now frames .depth ⌝ }
+    ensures { λ r. ⌜ TurnsFrom (now (book .entry)) (now (store .entry)) (now (roots .entry)) (now (frames .entry)) (Back v)
+        (now (store .exit)) (now (roots .exit)) (now (frames .exit)) r ⌝ }
+{
+    let frame = frames.top();
+    if frame.done < frame.others {
+        return go_on(roots, frames, frame, v);
+    }
+    go_out(book, store, roots, frames, frame, v)
+}
+
+// The same, and v is noted as the normal form of what the frame asked for.
+pub fn back(
+    book: &Book,
+    store: &mut Store,
+    roots: &mut Roots,
+    frames: &mut Frames,
+    v: Place,
+) -> Focus
+    requires { ⌜ CanTurn (now book) (now store) (now roots) (now frames) (Back v) ⌝ }
+    requires { ⌜ now store .count + 33 ≤ now store .limit ⌝ ∗ ⌜ 0 < now frames .depth ⌝ }
+    ensures { λ r. ⌜ TurnsFrom (now (book .entry)) (now (store .entry)) (now (roots .entry)) (now (frames .entry)) (Back v)
+        (now (store .exit)) (now (roots .exit)) (now (frames .exit)) r ⌝ }
+{
+    let asked = frames.asked() as usize;
+    let focus = go_back(book, store, roots, frames, v);
+    if asked == 0 {
+        return focus;
+    }
+    store.set_note(Place(asked - 1), v);
+    focus
+}
+
+// A turn at the sign f with n + 1 parts.
+fn enter(
+    book: &Book,
+    store: &mut Store,
+    roots: &mut Roots,
+    frames: &mut Frames,
+    p: Place,
+    f: u32,
+    n: usize,
+) -> Focus
+    requires { ⌜ CanTurn (now book) (now store) (now roots) (now frames) (Eval p) ⌝ ∗ ⌜ SpaceForTurn (now store) (now roots) (now frames) ⌝ }
+    requires { ⌜ n ≤ 3 ⌝ ∗ ⌜ arityIn (now store) (p .0) ≡ n + 1 ⌝ }
+    requires { ⌜ termIn (now store) (p .0) ≡ sign f (partsIn (now store) (p .0) (n + 1)) ⌝ }
+    ensures { λ r. ⌜ TurnsFrom (now (book .entry)) (now (store .entry)) (now (roots .entry)) (now (frames .entry)) (Eval p)
+        (now (store .exit)) (now (roots .exit)) (now (frames .exit)) r ⌝ }
+{
+    match advance(book, store, p) {
+        Some(focus) => focus,
+        None => go_in(store, roots, frames, p, f, n),
+    }
+}
+
+// A turn at the term at p, which is to be brought to normal form.
+pub fn eval(
+    book: &Book,
+    store: &mut Store,
+    roots: &mut Roots,
+    frames: &mut Frames,
+    p: Place,
+) -> Focus
+    requires { ⌜ CanTurn (now book) (now store) (now roots) (now frames) (Eval p) ⌝ ∗ ⌜ SpaceForTurn (now store) (now roots) (now frames) ⌝ }
+    ensures { λ r. ⌜ TurnsFrom (now (book .entry)) (now (store .entry)) (now (roots .entry)) (now (frames .entry)) (Eval p)
+        (now (store .exit)) (now (roots .exit)) (now (frames .exit)) r ⌝ }
+{
+    let Node::Sign(f, n) = store.view(p) else {
+        return apply(book, store, p);
+    };
+    if n == 0 {
+        return apply(book, store, p);
+    }
+    enter(book, store, roots, frames, p, f, n - 1)
 }
