@@ -12,3 +12,5 @@ pub mod Entering
 pub mod Onward
 pub mod Leaving
 pub mod Turned
+pub mod Spaced
+pub mod Running-on

@@ -65,3 +65,14 @@ pub record Popped (q r : Frames) : Type 0 where
 -- the word of what the top frame asked for, or 0
 abbrev pub Asked-top : Frames → ℕ → Type 0
 Asked-top q w = 0 < w → (q .fresh ≤ q .depth - 1) × (w ≡ frame-at (q .words .now) (q .depth - 1) .asked)
+
+-- the same frames, with nothing remembered; and none
+pub record Forgotten (q r : Frames) : Type 0 where
+  pub words : r .words .now ≡ q .words .now
+  pub depth : r .depth ≡ q .depth
+  pub fresh : r .fresh ≡ q .depth
+
+pub record Emptied (q r : Frames) : Type 0 where
+  pub words : r .words .now ≡ q .words .now
+  pub depth : r .depth ≡ 0
+  pub fresh : r .fresh ≡ 0

@@ -5,3 +5,5 @@ pub mod Rewriting
 pub mod Frames
 pub mod Running
 pub mod Turning
+pub mod Spacing
+pub mod Normal

@@ -4,7 +4,7 @@ ghost use mathlib.Core.Bool.{Bool, true, false};
 ghost use mathlib.Core.Logic.{_⊎_};
 ghost use Prim.Native.Nat.{ℕ, _+_, _-_, _*_, _<_, _≤_};
 ghost use lib.ListN.{length};
-ghost use Rattle.engine.specs.Frames.{Popped};
+ghost use Rattle.engine.specs.Frames.{Popped, Forgotten, Emptied};
 ghost use Rattle.engine.specs.Frames.{Frame-put as FramePut};
 ghost use Rattle.engine.specs.Frames.{Frame-pushed as FramePushed};
 ghost use Rattle.engine.specs.Frames.{Gone-on as GoneOn};
@@ -122,5 +122,20 @@ impl Frames<'_> {
         if self.depth < self.fresh {
             self.fresh = self.depth;
         }
+    }
+
+    // The places that were asked for mean nothing any more.
+    pub fn forget(&mut self)
+        ensures { λ _. ⌜ Forgotten (now (self .entry)) (now (self .exit)) ⌝ }
+    {
+        self.fresh = self.depth;
+    }
+
+    // No frames.
+    pub fn clear(&mut self)
+        ensures { λ _. ⌜ Emptied (now (self .entry)) (now (self .exit)) ⌝ }
+    {
+        self.depth = 0;
+        self.fresh = 0;
     }
 }

@@ -45,3 +45,11 @@ pub enum Focus {
     Eval(Place),
     Back(Place),
 }
+
+// Where a turn leads: to the next focus, to the end with a normal form, or nowhere for want of space.
+#[derive(Clone, Copy)]
+pub enum Progress {
+    Going(Focus),
+    Finished(Place),
+    Stopped,
+}
