@@ -1,11 +1,10 @@
 -- What a term comes to at once.
-use mathlib.Core.Path.{_≡_, refl, sym, ap, subst}
+use mathlib.Core.Path.{_≡_, refl, sym, subst}
 use mathlib.Core.Bool.{true}
 use mathlib.Core.List.{List}
-use Prim.Native.Nat.{ℕ, _+_, _-_, _<_, _≤_}
+use Prim.Native.Nat.{ℕ, _+_, _-_, _<_}
 use native.Mathlib.Omega.{arith}
 use Rattle.std.specs.declared.option.Option.the-variants.{Some, None}
-use Rattle.rewriting.specs.Terms.{Term}
 use Rattle.rewriting.specs.Rules.{Eq, Steps, stay, Done}
 use Rattle.rewriting.specs.Machine.{Still}
 use Rattle.store.specs.declared.types.Store.{Store}

@@ -1,27 +1,24 @@
 -- A turn that goes to the first part of a sign.
 use mathlib.Core.Path.{_≡_, refl, sym, _∙_, ap, ap₂, subst}
 use mathlib.Core.List.{List, _∷_}
-use mathlib.Core.Logic.{_⊎_, inl, inr}
-use Prim.Native.Nat.{ℕ, zero, suc, _+_, _-_, _*_, _<_, _≤_}
+use mathlib.Core.Logic.{inl, inr}
+use Prim.Native.Nat.{ℕ, suc, _+_, _-_, _<_, _≤_}
 use native.Mathlib.Omega.{arith}
 use native.Mathlib.Numerals.{add-one}
 use native.Mathlib.Decide.{decLt}
-use lib.ListN.{length}
 use Rattle.rewriting.specs.Terms.{Term, sign, Terms, none1, and1}
 use Rattle.rewriting.specs.Rules.{Eq, Steps, stay}
-use Rattle.rewriting.specs.Machine.{frame, eval, State, state, around, Move, go-in, rest}
+use Rattle.rewriting.specs.Machine.{frame, eval, state, Move, go-in, rest}
 use Rattle.rewriting.specs.Machine.{Frame as Model-frame}
 use Rattle.store.specs.declared.types.Store.{Store}
 use Rattle.store.specs.declared.types.Roots.{Roots}
 use Rattle.store.specs.declared.types.Place.{Place}
 use Rattle.store.specs.Slots.{parts-by}
-use Rattle.store.specs.Stores.{Sound, term-in, arity-in, part-in, parts-in, held, Inside}
+use Rattle.store.specs.Stores.{term-in, arity-in, part-in, parts-in, held}
 use Rattle.store.specs.Stacks.{root-in}
-use Rattle.store.specs.Roots.{Has-roots}
 use Rattle.engine.specs.declared.types.Frame.{Frame}
 use Rattle.engine.specs.declared.types.Frames.{Frames}
-use Rattle.engine.specs.declared.types.Focus.{Focus}
-use Rattle.engine.specs.declared.types.Focus.the-variants.{Eval, Back}
+use Rattle.engine.specs.declared.types.Focus.the-variants.{Eval}
 use Rattle.engine.specs.Frames.{frame-at, Asked-by, Frame-pushed}
 use Rattle.engine.specs.Running.{run, frames-of, Framed, frames-in, state-in, Asks, Asked-for, Running}
 use Rattle.engine.specs.Turning.{Space-for-turn, Turned-to, Others-pushed}

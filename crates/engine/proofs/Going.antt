@@ -1,19 +1,18 @@
 -- Turns: a change of the store under the frames, and one of the focus.
 use mathlib.Core.Path.{_≡_, refl, sym, _∙_, ap, ap₂, subst}
 use mathlib.Core.List.{List, []}
-use Prim.Native.Nat.{ℕ, suc, _+_, _-_, _<_, _≤_}
+use Prim.Native.Nat.{ℕ, _-_, _<_, _≤_}
 use native.Mathlib.Omega.{arith}
-use lib.ListN.{length}
-use Rattle.rewriting.specs.Terms.{Term, sign, Terms, Fits}
-use Rattle.rewriting.specs.Rules.{Eq, Steps, stay, Done}
-use Rattle.rewriting.specs.Machine.{eval, back, apply, State, state, plug, Move, known, at-once, known-sign, by-rule, Moves, rest}
-use Rattle.rewriting.specs.Machine.{Frame as Model-frame, Focus as Model-focus}
+use Rattle.rewriting.specs.Terms.{Term, sign, Terms}
+use Rattle.rewriting.specs.Rules.{Eq, Steps, stay}
+use Rattle.rewriting.specs.Machine.{eval, back, apply, state, Move, known, at-once, known-sign, by-rule, Moves, rest}
+use Rattle.rewriting.specs.Machine.{Frame as Model-frame}
 use Rattle.rewriting.proofs.Stepping.{trans}
 use Rattle.rewriting.proofs.Moving.{move-steps}
 use Rattle.store.specs.declared.types.Store.{Store}
 use Rattle.store.specs.declared.types.Roots.{Roots}
 use Rattle.store.specs.declared.types.Place.{Place}
-use Rattle.store.specs.Stores.{Sound, term-in, held, Inside}
+use Rattle.store.specs.Stores.{term-in, held}
 use Rattle.store.specs.Stacks.{root-in}
 use Rattle.engine.specs.declared.types.Frame.{Frame}
 use Rattle.engine.specs.declared.types.Frames.{Frames}
@@ -21,7 +20,7 @@ use Rattle.engine.specs.declared.types.Focus.{Focus}
 use Rattle.engine.specs.declared.types.Focus.the-variants.{Eval, Back}
 use Rattle.engine.specs.Frames.{frame-at}
 use Rattle.engine.specs.Running.{focus-place, focus-of, frames-in, state-in, Asks, Asked-for, Running, Holding}
-use Rattle.engine.specs.Turning.{Comes-to, Goes, Kept-below, Turned-to}
+use Rattle.engine.specs.Turning.{Comes-to, Turned-to}
 use Rattle.engine.proofs.Honesty.{holding-on}
 use Rattle.engine.proofs.Contexts.{frames-same, framed-low, asks-map, asks-steps}
 

@@ -1,28 +1,28 @@
 -- A turn that goes back from the last part of a sign to the sign.
-use mathlib.Core.Path.{_≡_, refl, sym, _∙_, ap, ap₂, subst}
+use mathlib.Core.Path.{_≡_, sym, _∙_, ap, ap₂, subst}
 use mathlib.Core.List.{List, _∷_}
-use Prim.Native.Nat.{ℕ, zero, suc, _+_, _-_, _*_, _<_, _≤_}
+use Prim.Native.Nat.{ℕ, suc, _+_, _-_, _<_}
 use native.Mathlib.Omega.{arith}
 use lib.ListN.{length, getD}
-use Rattle.rewriting.specs.Terms.{Term, sign, Terms, none1, and1, Fits}
-use Rattle.rewriting.specs.Rules.{Eq, Steps, Done}
-use Rattle.rewriting.specs.Machine.{frame, back, apply, State, state, around, behind, Still, Move, go-out, Moves, rest, move, Valid}
+use Rattle.rewriting.specs.Terms.{Term, sign, Terms, none1, Fits}
+use Rattle.rewriting.specs.Rules.{Eq, Done}
+use Rattle.rewriting.specs.Machine.{frame, back, apply, state, behind, Still, Move, go-out, Moves, rest, move, Valid}
 use Rattle.rewriting.specs.Machine.{Frame as Model-frame}
 use Rattle.rewriting.proofs.Framing.{plug-fits}
 use Rattle.rewriting.proofs.Moving.{move-valid, sign-done}
 use Rattle.store.specs.declared.types.Store.{Store}
 use Rattle.store.specs.declared.types.Roots.{Roots}
 use Rattle.store.specs.declared.types.Place.{Place}
-use Rattle.store.specs.Stores.{Sound, term-in, held, Inside}
+use Rattle.store.specs.Stores.{term-in, held}
 use Rattle.store.specs.Roots.{root-at}
 use Rattle.store.specs.Stacks.{root-in, Cut-to}
-use Rattle.store.specs.Making.{terms-at, Sign-shared}
+use Rattle.store.specs.Making.{Sign-shared}
 use Rattle.books.specs.declared.row.Book.{Book}
 use Rattle.books.specs.Books.{told}
 use Rattle.engine.specs.declared.types.Frame.{Frame}
 use Rattle.engine.specs.declared.types.Frames.{Frames}
 use Rattle.engine.specs.declared.types.Focus.{Focus}
-use Rattle.engine.specs.declared.types.Focus.the-variants.{Eval, Back}
+use Rattle.engine.specs.declared.types.Focus.the-variants.{Back}
 use Rattle.engine.specs.Frames.{frame-at, Popped}
 use Rattle.engine.specs.Rewriting.{Rewritable}
 use Rattle.engine.specs.Running.{run, frames-of, Framed, focus-place, focus-of, frames-in, state-in, Asks, Asked-for, Running, Holding}

@@ -1,25 +1,23 @@
 -- A turn that goes from one part of a sign to the next.
 use mathlib.Core.Path.{_≡_, refl, sym, _∙_, ap, ap₂, subst}
 use mathlib.Core.List.{List, _∷_}
-use Prim.Native.Nat.{ℕ, zero, suc, _+_, _-_, _*_, _<_, _≤_}
+use Prim.Native.Nat.{ℕ, suc, _+_, _-_, _<_}
 use native.Mathlib.Omega.{arith}
 use native.Mathlib.Decide.{ℕ-discrete}
-use lib.ListN.{length}
-use Rattle.rewriting.specs.Terms.{Term, sign, Terms, none1, and1}
-use Rattle.rewriting.specs.Rules.{Eq, Steps, stay}
-use Rattle.rewriting.specs.Machine.{frame, eval, back, State, state, around, behind, Move, go-on, rest}
+use Rattle.rewriting.specs.Terms.{Term, sign, Terms, and1}
+use Rattle.rewriting.specs.Rules.{Eq}
+use Rattle.rewriting.specs.Machine.{frame, eval, back, state, around, behind, Move, go-on, rest}
 use Rattle.rewriting.specs.Machine.{Frame as Model-frame}
 use Rattle.rewriting.proofs.Framing.{around-behind}
 use Rattle.store.specs.declared.types.Store.{Store}
 use Rattle.store.specs.declared.types.Roots.{Roots}
 use Rattle.store.specs.declared.types.Place.{Place}
-use Rattle.store.specs.Stores.{Sound, term-in, held, Inside}
+use Rattle.store.specs.Stores.{term-in, held}
 use Rattle.store.specs.Stacks.{root-in, Root-set}
 use Rattle.engine.specs.declared.types.Frame.{Frame}
 use Rattle.engine.specs.declared.types.Frames.{Frames}
-use Rattle.engine.specs.declared.types.Focus.{Focus}
 use Rattle.engine.specs.declared.types.Focus.the-variants.{Eval, Back}
-use Rattle.engine.specs.Frames.{frame-at, Asked-by, Gone-on}
+use Rattle.engine.specs.Frames.{frame-at, Gone-on}
 use Rattle.engine.specs.Running.{run, frames-of, Framed, frames-in, state-in, Asks, Asked-for, Running}
 use Rattle.engine.specs.Turning.{Turned-to}
 use Rattle.engine.proofs.Contexts.{run-same, run-behind, run-first, frames-top, framed-top, frames-same, framed-same, framed-low}

@@ -2,11 +2,11 @@
 use mathlib.Core.Path.{_≡_, refl, sym, _∙_, ap, ap₂, subst}
 use mathlib.Core.Bool.{true, false}
 use mathlib.Core.List.{List, [], _∷_}
-use Prim.Native.Nat.{ℕ, _+_, _-_, _*_, _<_, _≤_}
+use Prim.Native.Nat.{ℕ, _+_, _-_, _<_}
 use native.Mathlib.Omega.{arith}
 use native.Mathlib.Decide.{ℕ-discrete}
 use lib.ListN.{length}
-use Rattle.rewriting.specs.Terms.{Term, Fits}
+use Rattle.rewriting.specs.Terms.{Term}
 use Rattle.rewriting.specs.Rules.{Eq, Steps, stay, Done}
 use Rattle.rewriting.specs.Different.{different, listed}
 use Rattle.rewriting.specs.Machine.{State, state, eval, back, whole, move, Valid}
@@ -20,14 +20,14 @@ use Rattle.store.specs.declared.types.Roots.{Roots}
 use Rattle.store.specs.declared.types.Place.{Place}
 use Rattle.store.specs.Roots.{root-at}
 use Rattle.store.specs.Stacks.{root-in, Stacked-on, Cut-to}
-use Rattle.store.specs.Stores.{Sound, term-in, held, Inside}
+use Rattle.store.specs.Stores.{term-in, held}
 use Rattle.books.specs.declared.row.Book.{Book}
 use Rattle.books.specs.Books.{told}
 use Rattle.engine.specs.declared.types.Frames.{Frames}
 use Rattle.engine.specs.declared.types.Focus.{Focus}
-use Rattle.engine.specs.declared.types.Focus.the-variants.{Eval, Back}
+use Rattle.engine.specs.declared.types.Focus.the-variants.{Eval}
 use Rattle.engine.specs.Frames.{Emptied}
-use Rattle.engine.specs.Running.{Framed, frames-of, frames-in, focus-of, focus-place, state-in, Asks, Asked-for, Running}
+use Rattle.engine.specs.Running.{Framed, frames-of, frames-in, state-in, Asks, Asked-for}
 use Rattle.engine.specs.Turning.{Goes, Ready, Kept-below, Turned-to}
 use Rattle.engine.specs.Spacing.{Wanting, few-slots, few-words, few-cells, Halted, With-space, Went, Ended}
 use Rattle.engine.specs.Normal.{Startable, Normalized}
@@ -45,12 +45,9 @@ wanting-kept : (low : ℕ) (a : Store) (q : Roots) (f : Frames) (b : Store) (r :
     Wanting (b .room) (length (g .words .now)) (length (r .cells .now)) low (λ k. held b r k) u →
     Wanting (a .room) (length (f .words .now)) (length (q .cells .now)) low (λ k. held a q k) u
 wanting-kept low a q f b r g u k (few-slots l) =
-    few-slots (omega (
-      arith,
-      k .room,
-      l,
-      ap different (listed-same (λ i. held b r i) (λ i. held a q i) low (k .terms)),
-    ))
+    few-slots (subst (λ (ts : List Term). a .room < different (u ∷ ts) + 33)
+    (listed-same (λ i. held b r i) (λ i. held a q i) low (k .terms))
+    (subst (λ (n : ℕ). n < different (u ∷ listed (λ i. held b r i) low) + 33) (k .room) l))
 wanting-kept low a q f b r g u k (few-words l) = few-words (omega (arith, k .words, l))
 wanting-kept low a q f b r g u k (few-cells l) = few-cells (omega (arith, k .cells, l))
 

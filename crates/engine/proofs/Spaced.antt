@@ -1,7 +1,6 @@
 -- Space for a turn: after a collection, and where it is wanting.
 use mathlib.Core.Path.{_≡_, refl, sym, _∙_, ap, ap₂, subst}
 use mathlib.Core.Bool.{Bool, true, false}
-use mathlib.Core.Logic.{_⊎_, inl, inr}
 use mathlib.Core.List.{List, [], _∷_}
 use Prim.Native.Nat.{ℕ, zero, suc, _+_, _-_, _*_, _<_, _≤_}
 use native.Mathlib.Omega.{arith}
@@ -10,11 +9,11 @@ use native.Mathlib.Numerals.{add-one}
 use lib.ListN.{length}
 use Rattle.std.specs.declared.option.Option.the-variants.{Some, None}
 use Rattle.rewriting.specs.Terms.{Term}
-use Rattle.rewriting.specs.Rules.{Eq, Part, itself}
+use Rattle.rewriting.specs.Rules.{Eq, Part}
 use Rattle.rewriting.specs.Different.{different, listed, Part-of, of-first, of-later}
 use Rattle.rewriting.specs.Machine.{eval, back, state, frames, plug, whole}
 use Rattle.rewriting.specs.Machine.{Frame as Model-frame}
-use Rattle.rewriting.proofs.Different.{part-trans, part-of-listed, part-in-listed, listed-same, different-both}
+use Rattle.rewriting.proofs.Different.{part-trans, part-of-listed, part-in-listed, listed-same, different-mono}
 use Rattle.rewriting.proofs.Depth.{depth}
 use Rattle.rewriting.proofs.Framing.{part-plug}
 use Rattle.store.specs.declared.types.Store.{Store}
@@ -22,7 +21,7 @@ use Rattle.store.specs.declared.types.Roots.{Roots}
 use Rattle.store.specs.declared.types.Place.{Place}
 use Rattle.store.specs.Roots.{root-at, Has-roots}
 use Rattle.store.specs.Stacks.{root-in, Stacked-on, Cut-to}
-use Rattle.store.specs.Stores.{Sound, Carried, term-in, held, Inside}
+use Rattle.store.specs.Stores.{term-in, held, Inside}
 use Rattle.store.specs.Making.{Reserved}
 use Rattle.engine.specs.declared.types.Frames.{Frames}
 use Rattle.engine.specs.declared.types.Focus.{Focus}
@@ -145,22 +144,19 @@ module _ (rs : List Eq) (low : ℕ) (st : Store) (q : Roots) (fr : Frames) (c : 
   space-same s = record { running = run1; same = refl; space = s; kept = kept-same }
 
   -- the terms kept are parts of the whole, or are below
-  few-parts : different (t ∷ listed g (q .top)) ≤ different (listed g low) + different (u ∷ [])
-  few-parts = different-both (listed g low) (u ∷ []) (t ∷ listed g (q .top)) one
+  few-parts : different (t ∷ listed g (q .top)) ≤ different (u ∷ listed g low)
+  few-parts = different-mono (t ∷ listed g (q .top)) (u ∷ listed g low) one
     where
-      ks : List Model-frame
-      ks = frames-in st q fr
-
       is-part : (v : Term) → Part v (plug (frames-in st q fr) t) → Part v u
       is-part v h = subst (Part v) (sym (whole-is c)) h
 
-      low-or-part : (v : Term) (k : ℕ) → k < q .top → Part v (g k) → Dec (k < low) → Part-of v (listed g low) ⊎ Part-of v (u ∷ [])
-      low-or-part v k l h (yes m) = inl (part-of-listed g low k v m h)
-      low-or-part v k l h (no m) = inr (of-first (is-part v (part-trans h
-          (root-part g (fr .words .now) (fr .depth) (q .top) low k t (run1 .framed) (omega arith) l))))
+      low-or-part : (v : Term) (k : ℕ) → k < q .top → Part v (g k) → Dec (k < low) → Part-of v (u ∷ listed g low)
+      low-or-part v k l h (yes m) = of-later (part-of-listed g low k v m h)
+      low-or-part v k l h (no m) = of-first (is-part v (part-trans h
+          (root-part g (fr .words .now) (fr .depth) (q .top) low k t (run1 .framed) (omega arith) l)))
 
-      one : (v : Term) → Part-of v (t ∷ listed g (q .top)) → Part-of v (listed g low) ⊎ Part-of v (u ∷ [])
-      one v (of-first h) = inr (of-first (is-part v (part-plug (frames-in st q fr) h)))
+      one : (v : Term) → Part-of v (t ∷ listed g (q .top)) → Part-of v (u ∷ listed g low)
+      one v (of-first h) = of-first (is-part v (part-plug (frames-in st q fr) h))
       one v (of-later h) =
           let (k, l, m) = part-in-listed g (q .top) v h in
           low-or-part v k l m (decLt k low)

@@ -1,20 +1,18 @@
 -- What each turn needs and comes to, as its parts say it.
 use mathlib.Core.Path.{_≡_, refl, sym, _∙_, ap, subst}
 use mathlib.Core.List.{List}
-use Prim.Native.Nat.{ℕ, zero, suc, _+_, _-_, _*_, _<_, _≤_}
+use Prim.Native.Nat.{ℕ, suc, _+_, _-_, _<_, _≤_}
 use native.Mathlib.Omega.{arith}
-use lib.ListN.{length}
-use Rattle.rewriting.specs.Terms.{Term, letter, sign, Terms, none1}
-use Rattle.rewriting.specs.Rules.{Eq, Steps, stay, Done}
+use Rattle.rewriting.specs.Terms.{Term, letter, sign, none1}
+use Rattle.rewriting.specs.Rules.{Eq, Steps, Done}
 use Rattle.rewriting.specs.Order.{rank}
 use Rattle.rewriting.specs.Machine.{Still}
-use Rattle.rewriting.specs.Machine.{Frame as Model-frame}
 use Rattle.rewriting.proofs.Framing.{plug-fits}
 use Rattle.rewriting.proofs.Moving.{sign-done, letter-done}
 use Rattle.store.specs.declared.types.Store.{Store}
 use Rattle.store.specs.declared.types.Roots.{Roots}
 use Rattle.store.specs.declared.types.Place.{Place}
-use Rattle.store.specs.Stores.{Sound, term-in, arity-in, parts-in, note-in, Note-set, held}
+use Rattle.store.specs.Stores.{term-in, parts-in, Note-set, held}
 use Rattle.store.specs.Stacks.{root-in, Root-set, Cut-to}
 use Rattle.store.specs.Making.{Sign-shared}
 use Rattle.books.specs.declared.row.Book.{Book}
@@ -25,8 +23,8 @@ use Rattle.engine.specs.declared.types.Focus.{Focus}
 use Rattle.engine.specs.declared.types.Focus.the-variants.{Eval, Back}
 use Rattle.engine.specs.Frames.{frame-at, Gone-on, Popped, Asked-top}
 use Rattle.engine.specs.Rewriting.{Rewritable}
-use Rattle.engine.specs.Running.{frames-of, frames-in, Asks, Asked-for, Running, Holding}
-use Rattle.engine.specs.Turning.{Comes-to, Applied, Ready, Turned-to, Turns-from, Top-frame, Parts-gathered}
+use Rattle.engine.specs.Running.{frames-of, frames-in, Asks, Asked-for, Holding}
+use Rattle.engine.specs.Turning.{Comes-to, Applied, Ready, Turned-to, Top-frame, Parts-gathered}
 use Rattle.engine.proofs.Honesty.{holding-note}
 use Rattle.engine.proofs.Contexts.{framed-low, frames-length}
 use Rattle.engine.proofs.Going.{turned-at, turned-holding}

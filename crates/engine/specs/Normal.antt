@@ -1,7 +1,7 @@
 -- The normal form of a term of the store.
 use mathlib.Core.Path.{_≡_}
 use mathlib.Core.Bool.{Bool, true, false}
-use Prim.Native.Nat.{ℕ, _+_, _-_, _<_, _≤_}
+use Prim.Native.Nat.{ℕ, _-_, _<_}
 use lib.ListN.{length}
 use Rattle.rewriting.specs.Terms.{Term, Fits}
 use Rattle.rewriting.specs.Rules.{Steps, Done}

@@ -10,7 +10,6 @@ use Rattle.rewriting.specs.Machine.{frame, eval, back, State, state, around}
 use Rattle.rewriting.specs.Machine.{Frame as Model-frame, Focus as Model-focus}
 use Rattle.store.specs.declared.types.Store.{Store}
 use Rattle.store.specs.declared.types.Roots.{Roots}
-use Rattle.store.specs.declared.types.Place.{Place}
 use Rattle.store.specs.Stores.{Sound, term-in, flag-in, note-in, held, Inside}
 use Rattle.engine.specs.declared.types.Frame.{Frame}
 use Rattle.engine.specs.declared.types.Frames.{Frames}

@@ -1,22 +1,20 @@
 -- Space for turns: what a collection comes to, and what is wanting where there is no space.
 use mathlib.Core.Path.{_≡_}
-use mathlib.Core.Bool.{Bool, true, false}
 use mathlib.Core.List.{List, [], _∷_}
 use Prim.Native.Nat.{ℕ, _+_, _-_, _*_, _<_, _≤_}
 use lib.ListN.{length}
 use Rattle.std.specs.declared.option.Option.{Option as Maybe}
 use Rattle.std.specs.declared.option.Option.the-variants.{Some, None}
-use Rattle.rewriting.specs.Terms.{Term, Fits}
-use Rattle.rewriting.specs.Rules.{Eq, Steps, Done}
+use Rattle.rewriting.specs.Terms.{Term}
+use Rattle.rewriting.specs.Rules.{Eq}
 use Rattle.rewriting.specs.Different.{different, listed}
-use Rattle.rewriting.specs.Order.{rank, All-down}
 use Rattle.rewriting.specs.Machine.{whole}
 use Rattle.store.specs.declared.types.Store.{Store}
 use Rattle.store.specs.declared.types.Roots.{Roots}
 use Rattle.store.specs.declared.types.Place.{Place}
 use Rattle.store.specs.Stores.{Sound, Carried, term-in, held, Inside}
 use Rattle.books.specs.declared.row.Book.{Book}
-use Rattle.books.specs.Books.{told, Sound-book}
+use Rattle.books.specs.Books.{told}
 use Rattle.engine.specs.declared.types.Frames.{Frames}
 use Rattle.engine.specs.declared.types.Focus.{Focus}
 use Rattle.engine.specs.declared.types.Focus.the-variants.{Eval, Back}
@@ -46,10 +44,10 @@ pub record Collected (st : Store) (q : Roots) (p : Place) (su : Store) (r : Root
   pub terms : (k : ℕ) → k < q .top → held su r k ≡ held st q k
   pub result : Place-or-full st q p su x
 
--- what is wanting, against the different parts of the term u to which steps have led and of the terms that are kept below: slots;
+-- what is wanting for the term u, to which steps have led: slots, for its different parts and those of the terms that are kept below;
 -- words for frames; or cells for roots
 pub data Wanting (room words cells low : ℕ) (h : ℕ → Term) (u : Term) : Type 0 where
-  few-slots : room < different (listed h low) + different (u ∷ []) + 33 → Wanting room words cells low h u
+  few-slots : room < different (u ∷ listed h low) + 33 → Wanting room words cells low h u
   few-words : words < 4 * different (u ∷ []) → Wanting room words cells low h u
   few-cells : cells < 2 * (low + 3 * different (u ∷ []) + 1) → Wanting room words cells low h u
 

@@ -5,15 +5,14 @@ use Prim.Native.Nat.{ℕ, _+_, _-_, _*_, _<_, _≤_}
 use lib.ListN.{length, getD}
 use Rattle.std.specs.declared.option.Option.{Option as Maybe}
 use Rattle.std.specs.declared.option.Option.the-variants.{Some, None}
-use Rattle.rewriting.specs.Terms.{Term, sign}
+use Rattle.rewriting.specs.Terms.{Term}
 use Rattle.rewriting.specs.Rules.{Eq, Steps, Done}
 use Rattle.rewriting.specs.Order.{rank, All-down}
 use Rattle.rewriting.specs.Machine.{State, Still, Move, Moves, Valid}
-use Rattle.rewriting.specs.Books.{Book as Told}
 use Rattle.store.specs.declared.types.Store.{Store}
 use Rattle.store.specs.declared.types.Roots.{Roots}
 use Rattle.store.specs.declared.types.Place.{Place}
-use Rattle.store.specs.Stores.{term-in, arity-in, part-in, parts-in, held}
+use Rattle.store.specs.Stores.{term-in, part-in, held}
 use Rattle.store.specs.Stacks.{root-in}
 use Rattle.store.specs.Roots.{Has-roots}
 use Rattle.books.specs.declared.row.Book.{Book}
@@ -22,7 +21,7 @@ use Rattle.engine.specs.declared.types.Frame.{Frame}
 use Rattle.engine.specs.declared.types.Frames.{Frames}
 use Rattle.engine.specs.declared.types.Focus.{Focus}
 use Rattle.engine.specs.declared.types.Focus.the-variants.{Eval, Back}
-use Rattle.engine.specs.Frames.{frame-at, Frame-pushed}
+use Rattle.engine.specs.Frames.{frame-at}
 use Rattle.engine.specs.Rewriting.{By-rule}
 use Rattle.engine.specs.Running.{Running, Holding, state-in}
 
