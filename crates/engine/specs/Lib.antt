@@ -2,3 +2,8 @@
 pub mod Matching
 pub mod Building
 pub mod Rewriting
+pub mod Frames
+pub mod Running
+pub mod Turning
+pub mod Spacing
+pub mod Normal

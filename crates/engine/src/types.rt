@@ -20,3 +20,36 @@ pub struct Built {
     pub places: [Place; 32],
     pub len: usize,
 }
+
+// A sign one of whose parts is worked at: how many others it has, how many of these are done, and, if it is known, the place from
+// which work at the part began, by its number and one.
+#[derive(Clone, Copy)]
+pub struct Frame {
+    pub sign: u32,
+    pub others: u32,
+    pub done: u32,
+    pub asked: u32,
+}
+
+// A stack of frames in lent words, four words each. Those below `fresh` have forgotten what they asked for.
+#[derive(Drop)]
+pub struct Frames<'a> {
+    pub words: &'a mut [u32],
+    pub depth: usize,
+    pub fresh: usize,
+}
+
+// What is worked at: a term to be brought to normal form, or a normal form that goes to the top frame.
+#[derive(Clone, Copy)]
+pub enum Focus {
+    Eval(Place),
+    Back(Place),
+}
+
+// Where a turn leads: to the next focus, to the end with a normal form, or nowhere for want of space.
+#[derive(Clone, Copy)]
+pub enum Progress {
+    Going(Focus),
+    Finished(Place),
+    Stopped,
+}
