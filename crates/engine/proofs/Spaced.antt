@@ -87,7 +87,8 @@ module _ (st : Store) (q : Roots) (p : Place) (q1 : Roots) (ins : Inside st q) (
       let h : ℕ → Term = λ k. held st q1 k in
       let e : listed h (q1 .top) ≡ term-in st (p .0) ∷ listed (λ k. held st q k) (q .top) =
       ap (listed h) (s .top ∙ add-one (q .top))
-      ∙ ap₂ _∷_ (ap (term-in st) (s .is)) (listed-same h (λ k. held st q k) (q .top) (λ k l. ap (term-in st) (s .rest k (λ z. omega arith)))) in
+      ∙ ap₂ _∷_ (ap (term-in st) (s .is))
+      (listed-same h (λ k. held st q k) (q .top) (λ k l. ap (term-in st) (s .rest k (λ z. omega arith)))) in
       record {
         sound = v .sound;
         room = v .room;
