@@ -15,7 +15,7 @@ use Rattle.engine.specs.declared.types.Focus.the-variants.{Eval, Back}
 use Rattle.engine.specs.Rewriting.{Rewritten}
 use Rattle.engine.specs.Running.{Honest, Holding}
 use Rattle.engine.specs.Turning.{Advanced, Applied}
-use Rattle.engine.proofs.Honesty.{holding-grown, holding-flag, holding-on, noted}
+use Rattle.engine.proofs.Honesty.{holding-grown, holding-flag, holding-on}
 
 module _ (rs : List Eq) (st : Store) (p : Place) where
   pub holding-same : Sound st → Honest rs st → Holding rs st st
@@ -27,28 +27,8 @@ module _ (rs : List Eq) (st : Store) (p : Place) where
     result = record { inside = l; steps = stay; done = h .flags (p .0) l e };
   }
 
-  pub by-note : (q : Place) → Sound st → Honest rs st → p .0 < st .count → q .0 + 1 ≡ note-in st (p .0) →
-      Advanced rs st p st (Some (Back q))
-  by-note q s h l e =
-      let n = noted rs st h (p .0) l (omega (arith, e)) in
-      let z : note-in st (p .0) - 1 ≡ q .0 = omega (arith, e) in
-      record {
-        holding = holding-same s h;
-        result = record {
-          inside = omega (arith, n .0, e);
-          steps = subst (λ (i : ℕ). Steps rs (term-in st (p .0)) (term-in st i)) z (n .1);
-          done = subst (λ (i : ℕ). Done rs (term-in st i)) z (n .2);
-        };
-      }
-
   pub by-step : (su : Store) (q : Place) → Honest rs st → Rewritten rs st p su (Some q) → Advanced rs st p su (Some (Eval q))
   by-step su q h r = record { holding = holding-grown rs st su h (r .sound) (r .grown); result = r .result }
-
-  pub by-none : (su : Store) → Honest rs st → Rewritten rs st p su None → Advanced rs st p su None
-  by-none su h r = record { holding = holding-grown rs st su h (r .sound) (r .grown); result = r .result }
-
-  pub apply-some : (su : Store) (c : Focus) → Advanced rs st p su (Some c) → Applied rs st p su c
-  apply-some su c a = record { holding = a .holding; result = a .result }
 
   pub apply-none : (su sv : Store) → (Still rs (term-in st (p .0)) → Done rs (term-in st (p .0))) → p .0 < st .count →
       Advanced rs st p su None → Flag-set su (p .0) sv → Applied rs st p sv (Back p)

@@ -48,7 +48,10 @@ module _ (rs : List Eq) where
     where
       flag : (i : ℕ) → i < b .count → flag-in b i ≡ true → Dec (i < a .count) → Done rs (term-in b i)
       flag i l f (yes k) = subst (Done rs) (sym (g .terms i k)) (h .flags i k (sym (g .flags i k) ∙ f))
-      flag i l f (no k) = let z : true ≡ false = sym f ∙ g .new-flags i (omega arith) l in let y : _≡_ {A = ℕ} 0 1 = cc in absurd (omega arith)
+      flag i l f (no k) =
+          let z : true ≡ false = sym f ∙ g .new-flags i (omega arith) l in
+          let y : _≡_ {A = ℕ} 0 1 = cc in
+          absurd (omega arith)
 
       note : (i : ℕ) → i < b .count → 0 < note-in b i → Dec (i < a .count) → Noted b (term-in b i) (note-in b i)
       note i l m (yes k) =
@@ -64,7 +67,8 @@ module _ (rs : List Eq) where
   pub holding-flag : (a b : Store) (i : ℕ) → Honest rs a → Done rs (term-in a i) → i < a .count → Flag-set a i b → Holding rs a b
   holding-flag a b i h d low s = record {
     sound = s .sound;
-    honest = honest-by b (λ j l f. flag j (omega (arith, s .same .count)) f (ℕ-discrete j i)) (λ j l m. note j (omega (arith, s .same .count)) m);
+    honest = honest-by b (λ j l f. flag j (omega (arith, s .same .count)) f (ℕ-discrete j i))
+        (λ j l m. note j (omega (arith, s .same .count)) m);
     room = s .same .room;
     longer = longer;
     terms = s .same .terms;

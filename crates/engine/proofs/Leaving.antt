@@ -110,7 +110,8 @@ module _ (b : Book) (low : ℕ) (st : Store) (q : Roots) (fr : Frames) (v : Plac
       pub grown-holding : Holding rs st su
       grown-holding = holding-grown rs st su (ready .running .honest) (shared .sound) (shared .grown)
 
-      module _ (sv : Store) (r : Roots) (gr : Frames) (e : Focus) (cut : Cut-to q a r) (pop : Popped fr gr) (ap1 : Applied rs su p sv e) where
+      module _ (sv : Store) (r : Roots) (gr : Frames) (e : Focus) (cut : Cut-to q a r) (pop : Popped fr gr)
+          (ap1 : Applied rs su p sv e) where
         hold : Holding rs st sv
         hold = holding-on rs st su sv grown-holding (ap1 .holding)
 

@@ -1,10 +1,10 @@
 -- Space for a turn: after a collection, and where it is wanting.
 use mathlib.Core.Path.{_≡_, refl, sym, _∙_, ap, ap₂, subst}
-use mathlib.Core.Bool.{Bool, true, false}
+use mathlib.Core.Bool.{false}
 use mathlib.Core.List.{List, [], _∷_}
 use Prim.Native.Nat.{ℕ, zero, suc, _+_, _-_, _*_, _<_, _≤_}
 use native.Mathlib.Omega.{arith}
-use native.Mathlib.Decide.{ℕ-discrete, decLt}
+use native.Mathlib.Decide.{decLt}
 use native.Mathlib.Numerals.{add-one}
 use lib.ListN.{length}
 use Rattle.std.specs.declared.option.Option.the-variants.{Some, None}
@@ -19,7 +19,7 @@ use Rattle.rewriting.proofs.Framing.{part-plug}
 use Rattle.store.specs.declared.types.Store.{Store}
 use Rattle.store.specs.declared.types.Roots.{Roots}
 use Rattle.store.specs.declared.types.Place.{Place}
-use Rattle.store.specs.Roots.{root-at, Has-roots}
+use Rattle.store.specs.Roots.{root-at}
 use Rattle.store.specs.Stacks.{root-in, Stacked-on, Cut-to}
 use Rattle.store.specs.Stores.{term-in, held, Inside}
 use Rattle.store.specs.Making.{Reserved}
@@ -34,19 +34,8 @@ use Rattle.engine.proofs.Honesty.{honest-carried}
 use Rattle.engine.proofs.Contexts.{frames-same, framed-same, framed-low, frames-length, asks-map, root-part}
 
 -- a place on top of the roots
-module _ (st : Store) (q : Roots) (p : Place) (q1 : Roots) (ins : Inside st q) (at : p .0 < st .count)
-    (fits : Has-roots (q .cells .now) (q .top + 1)) (s : Stacked-on q (q .top) (p .0) q1) where
-  pub inside-on : Inside st q1
-  inside-on = record {
-    fits = omega (arith, s .long, s .top);
-    low = λ k l. low k (omega (arith, s .top)) (ℕ-discrete k (q .top));
-  }
-    where
-      low : (k : ℕ) → k < q .top + 1 → Dec (k ≡ q .top) → root-in q1 k < st .count
-      low k l (yes e) = omega (arith, ap (λ (i : ℕ). root-in q1 i) e, s .is)
-      low k l (no n) = omega (arith, s .rest k n, ins .low k (omega arith))
-
-  module _ (su : Store) (r1 : Roots) (x : Bool) (v : Reserved st q1 33 su r1 x) (r : Roots) (cut : Cut-to r1 (q .top) r) where
+module _ (st : Store) (q : Roots) (p : Place) (q1 : Roots) (s : Stacked-on q (q .top) (p .0) q1) where
+  module _ (su : Store) (r1 : Roots) (v : Reserved st q1 33 su r1 false) (r : Roots) (cut : Cut-to r1 (q .top) r) where
     abbrev root-same : (k : ℕ) → root-in r k ≡ root-in r1 k
     root-same k = ap (λ (cs : List ℕ). root-at cs k) (cut .cells)
 
@@ -64,40 +53,23 @@ module _ (st : Store) (q : Roots) (p : Place) (q1 : Roots) (ins : Inside st q) (
         ap (term-in su) (root-same k) ∙ v .roots .terms k (omega (arith, s .top))
         ∙ ap (term-in st) (s .rest k (λ e. omega arith))
 
-  pub collected-some : (su : Store) (r1 : Roots) (v : Reserved st q1 33 su r1 true) (r : Roots) → Cut-to r1 (q .top) r → (o : Place) →
-      o .0 ≡ root-in r1 (q .top) → Collected st q p su r (Some o)
-  collected-some su r1 v r cut o e = record {
-    sound = v .sound;
-    room = v .room;
-    carried = v .carried;
-    cells = cells-cut su r1 true v r cut;
-    top = cut .top;
-    inside = inside-cut su r1 true v r cut;
-    terms = terms-cut su r1 true v r cut;
-    result = (
-      omega (arith, e, v .roots .inside .low (q .top) (omega (arith, v .roots .top, s .top))),
-      ap (term-in su) e ∙ v .roots .terms (q .top) (omega (arith, s .top)) ∙ ap (term-in st) (s .is),
-      v .space,
-    );
-  }
-
-  pub collected-none : (su : Store) (r1 : Roots) (v : Reserved st q1 33 su r1 false) (r : Roots) → Cut-to r1 (q .top) r →
-      Collected st q p su r None
-  collected-none su r1 v r cut =
-      let h : ℕ → Term = λ k. held st q1 k in
-      let e : listed h (q1 .top) ≡ term-in st (p .0) ∷ listed (λ k. held st q k) (q .top) =
-      ap (listed h) (s .top ∙ add-one (q .top))
-      ∙ ap₂ _∷_ (ap (term-in st) (s .is)) (listed-same h (λ k. held st q k) (q .top) (λ k l. ap (term-in st) (s .rest k (λ z. omega arith)))) in
-      record {
-        sound = v .sound;
-        room = v .room;
-        carried = v .carried;
-        cells = cells-cut su r1 false v r cut;
-        top = cut .top;
-        inside = inside-cut su r1 false v r cut;
-        terms = terms-cut su r1 false v r cut;
-        result = subst (λ (ts : List Term). st .room < different ts + 33) e (v .space);
-      }
+    pub collected-none : Collected st q p su r None
+    collected-none =
+        let h : ℕ → Term = λ k. held st q1 k in
+        let e : listed h (q1 .top) ≡ term-in st (p .0) ∷ listed (λ k. held st q k) (q .top) =
+        ap (listed h) (s .top ∙ add-one (q .top))
+        ∙ ap₂ _∷_ (ap (term-in st) (s .is))
+        (listed-same h (λ k. held st q k) (q .top) (λ k l. ap (term-in st) (s .rest k (λ z. omega arith)))) in
+        record {
+          sound = v .sound;
+          room = v .room;
+          carried = v .carried;
+          cells = cells-cut;
+          top = cut .top;
+          inside = inside-cut;
+          terms = terms-cut;
+          result = subst (λ (ts : List Term). st .room < different ts + 33) e (v .space);
+        }
 
 pub framed-few : (ws : List ℕ) (d end low : ℕ) → Framed ws d end low → end ≤ low + 3 * d
 framed-few ws zero end low w = omega arith
@@ -139,9 +111,6 @@ module _ (rs : List Eq) (low : ℕ) (st : Store) (q : Roots) (fr : Frames) (c : 
 
   pub no-cells : length (q .cells .now) < 2 * (q .top + 4) → Halted rs low st q fr u st q fr
   no-cells l = halted-same (few-cells (omega (arith, deep, framed-few (fr .words .now) (fr .depth) (q .top) low (run1 .framed))))
-
-  pub space-same : Space-for-turn st q fr → With-space rs low st q fr c st q fr c
-  space-same s = record { running = run1; same = refl; space = s; kept = kept-same }
 
   -- the terms kept are parts of the whole, or are below
   few-parts : different (t ∷ listed g (q .top)) ≤ different (u ∷ listed g low)

@@ -53,7 +53,8 @@ fn advance(book: &Book, store: &mut Store, p: Place) -> Option<Focus>
 fn apply(book: &Book, store: &mut Store, p: Place) -> Focus
     requires { ⌜ Rewritable (now book) (now store) p ⌝ ∗ ⌜ now store .count + 32 ≤ now store .limit ⌝ }
     requires { ⌜ Honest (told (now book) .rules) (now store) ⌝ }
-    requires { ⌜ (Still (told (now book) .rules) (termIn (now store) (p .0)) → Done (told (now book) .rules) (termIn (now store) (p .0))) ⌝ }
+    requires { ⌜ (Still (told (now book) .rules) (termIn (now store) (p .0)) →
+        Done (told (now book) .rules) (termIn (now store) (p .0))) ⌝ }
     ensures { λ r. ⌜ Applied (told (now (book .entry)) .rules) (now (store .entry)) p (now (store .exit)) r ⌝ }
 {
     match advance(book, store, p) {
@@ -126,7 +127,8 @@ fn go_out(
     v: Place,
 ) -> Focus
     requires { ⌜ CanTurn (now book) (now store) (now roots) (now frames) (Back v) ⌝ }
-    requires { ⌜ now store .count + 33 ≤ now store .limit ⌝ ∗ ⌜ TopFrame (now roots) (now frames) frame ⌝ ∗ ⌜ frame .done ≡ frame .others ⌝ }
+    requires { ⌜ now store .count + 33 ≤ now store .limit ⌝
+        ∗ ⌜ TopFrame (now roots) (now frames) frame ⌝ ∗ ⌜ frame .done ≡ frame .others ⌝ }
     ensures { λ r. ⌜ TurnsFrom (now (book .entry)) (now (store .entry)) (now (roots .entry)) (now (frames .entry)) (Back v)
         (now (store .exit)) (now (roots .exit)) (now (frames .exit)) r ⌝ }
 {
@@ -191,7 +193,8 @@ fn enter(
     f: u32,
     n: usize,
 ) -> Focus
-    requires { ⌜ CanTurn (now book) (now store) (now roots) (now frames) (Eval p) ⌝ ∗ ⌜ SpaceForTurn (now store) (now roots) (now frames) ⌝ }
+    requires { ⌜ CanTurn (now book) (now store) (now roots) (now frames) (Eval p) ⌝
+        ∗ ⌜ SpaceForTurn (now store) (now roots) (now frames) ⌝ }
     requires { ⌜ n ≤ 3 ⌝ ∗ ⌜ arityIn (now store) (p .0) ≡ n + 1 ⌝ }
     requires { ⌜ termIn (now store) (p .0) ≡ sign f (partsIn (now store) (p .0) (n + 1)) ⌝ }
     ensures { λ r. ⌜ TurnsFrom (now (book .entry)) (now (store .entry)) (now (roots .entry)) (now (frames .entry)) (Eval p)
@@ -211,7 +214,8 @@ pub fn eval(
     frames: &mut Frames,
     p: Place,
 ) -> Focus
-    requires { ⌜ CanTurn (now book) (now store) (now roots) (now frames) (Eval p) ⌝ ∗ ⌜ SpaceForTurn (now store) (now roots) (now frames) ⌝ }
+    requires { ⌜ CanTurn (now book) (now store) (now roots) (now frames) (Eval p) ⌝
+        ∗ ⌜ SpaceForTurn (now store) (now roots) (now frames) ⌝ }
     ensures { λ r. ⌜ TurnsFrom (now (book .entry)) (now (store .entry)) (now (roots .entry)) (now (frames .entry)) (Eval p)
         (now (store .exit)) (now (roots .exit)) (now (frames .exit)) r ⌝ }
 {

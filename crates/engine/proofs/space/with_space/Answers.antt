@@ -12,7 +12,8 @@ returns-then-not-has-space c rs low run1 =
 
 pub returns-then-roots : need.returns-then-roots
 returns-then-roots c rs low run1 =
-    no-cells rs low (c .args .store .now) (c .args .roots .now) (c .args .frames .now) (c .args .focus) run1 (omega (arith, c .if-roots .taken))
+    no-cells rs low (c .args .store .now) (c .args .roots .now) (c .args .frames .now) (c .args .focus) run1
+    (omega (arith, c .if-roots .taken))
 
 pub returns-in-Some : need.returns-in-Some
 returns-in-Some c rs low run1 =

@@ -15,7 +15,8 @@ set-note-requires c κs =
 
 pub returns : need.returns
 returns c low ready =
-    turned-noted (c .args .book .now) low (c .args .store .now) (c .args .roots .now) (c .args .frames .now) (c .args .v) ready (c .pre .1 .1)
-    (c .go-back-focus .last .store) (c .go-back-focus .last .roots) (c .go-back-focus .last .frames) (c .go-back-focus .result)
+    turned-noted (c .args .book .now) low (c .args .store .now) (c .args .roots .now) (c .args .frames .now) (c .args .v) ready
+    (c .pre .1 .1) (c .go-back-focus .last .store) (c .go-back-focus .last .roots) (c .go-back-focus .last .frames)
+    (c .go-back-focus .result)
     (c .asked-asked .result) (c .set-note .last .self) (c .asked-asked .ensures) (omega arith) (c .go-back-focus .ensures low ready)
     (c .set-note .ensures)
