@@ -1,4 +1,6 @@
 // Reading rows of words as books, terms and ways.
+#![tactic(auto)]
+
 ghost use Rattle.books.specs.Theorems.{OneReading};
 ghost use Rattle.books.specs.Theorems.{SumRow};
 

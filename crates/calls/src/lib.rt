@@ -1,4 +1,6 @@
 // Calls for C.
+#![tactic(auto)]
+
 ghost use Rattle.std.specs.Prelude.{◌≡◌, length};
 ghost use Rattle.calls.specs.Calls.{Answers};
 ghost use Rattle.calls.specs.Calls.{code_of};

@@ -1,4 +1,6 @@
 // Rewriting over the store of shared terms.
+#![tactic(auto)]
+
 mod bindings;
 mod built;
 mod frames;

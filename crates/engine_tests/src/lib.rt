@@ -1,4 +1,6 @@
 // Tests of the engine: long runs, deep terms, work that is left undone, and terms that are large only when written out.
+#![tactic(auto)]
+
 #[cfg(test)]
 mod tests {
     use books::{Book, read_book};

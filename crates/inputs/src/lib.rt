@@ -1,4 +1,6 @@
 // How the programs read a book: from a file or the standard input, in the readable form or as rows.
+#![tactic(auto)]
+
 use lexing::fault::{Error, Place, place_after};
 use lexing::{Rows, read_rows};
 use notation::{Book, parse};

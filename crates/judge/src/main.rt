@@ -1,4 +1,6 @@
 // Judges a book: whether its rules settle its equations.
+#![tactic(auto)]
+
 use answers::{explanation, judged_line};
 use equal::{Judged, judge};
 use inputs::{Source, Stopped, complain, read_source};

@@ -1,4 +1,6 @@
 // Texts: their tokens and the places of these, faults, and rows of decimal words.
+#![tactic(auto)]
+
 pub mod fault;
 pub mod lexer;
 pub mod pairs;

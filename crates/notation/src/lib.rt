@@ -1,4 +1,6 @@
 // The readable form of books: names for signs and letters, equations and rules as one writes them on paper.
+#![tactic(auto)]
+
 mod book;
 mod pairs;
 mod parser;

@@ -1,4 +1,6 @@
 // Tests of the readable form: what is read, what each fault says, and that what is printed is read again as the same words.
+#![tactic(auto)]
+
 #[cfg(test)]
 mod tests {
     use lexing::fault::{Error, on_line};

@@ -1,4 +1,6 @@
 // What the programs are asked for on their command lines.
+#![tactic(auto)]
+
 ghost use Rattle.std.specs.Prelude.{◌≡◌, ◌≤◌, IfOk};
 ghost use Rattle.options.specs.Requests.{Within};
 

@@ -1,4 +1,6 @@
 // Whether the rules of a book go down in the lexicographic path order.
+#![tactic(auto)]
+
 mod compare;
 mod down;
 mod table;

@@ -1,4 +1,6 @@
 // Tests of the order: which rules go down.
+#![tactic(auto)]
+
 #[cfg(test)]
 mod tests {
     use books::{Book, read_book};

@@ -1,4 +1,6 @@
 // Whether a book has one end, by all places where two rules meet.
+#![tactic(auto)]
+
 pub mod ends;
 mod letters;
 mod overlap;

@@ -1,4 +1,6 @@
 // Tests of overlaps: books with one end, with more, and with too little room to tell.
+#![tactic(auto)]
+
 #[cfg(test)]
 mod tests {
     use books::{Book, read_book};

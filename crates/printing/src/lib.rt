@@ -1,4 +1,6 @@
 // Books, equations and rules written in the readable form.
+#![tactic(auto)]
+
 ghost use Rattle.std.specs.Prelude.{◌≡◌, ◌≤◌, [], IfOk, string_bytes};
 
 use notation::Book;

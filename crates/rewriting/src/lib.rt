@@ -1,4 +1,6 @@
 // The theory of rewriting that judging rests on: each function carries one theorem as its contract, and does nothing.
+#![tactic(auto)]
+
 ghost use Rattle.rewriting.specs.Theorems.{Heights, MadeOne, OrderEnds, OrderKept};
 ghost use Rattle.rewriting.specs.Theorems.{DownEnds, OverlapsTell, PeaksTell, Settled, ToldByPairs};
 ghost use Rattle.rewriting.specs.Different.{DifferentCounts};

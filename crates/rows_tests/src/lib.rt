@@ -1,4 +1,6 @@
 // Tests of reading rows: what is read, and each way of being refused.
+#![tactic(auto)]
+
 #[cfg(test)]
 mod tests {
     use books::{are_ways, is_term, read_book};

@@ -1,4 +1,6 @@
 // Shared terms in lent words: equal terms have one place, and what no root reaches is taken back.
+#![tactic(auto)]
+
 mod chains;
 mod collect;
 mod make;

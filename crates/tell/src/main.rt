@@ -1,4 +1,6 @@
 // Compares pairs of terms by a book that settles its equations.
+#![tactic(auto)]
+
 use inputs::{Source, Stopped, complain, name_of, read_source};
 use options::{Asked, Options, Program, is_stdin, read_arguments};
 use std::env;

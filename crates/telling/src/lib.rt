@@ -1,4 +1,6 @@
 // Comparing pairs of terms, one a line, by a book that is judged once.
+#![tactic(auto)]
+
 mod answer;
 mod lines;
 mod out;

@@ -1,4 +1,6 @@
 // Unification of two terms of the store.
+#![tactic(auto)]
+
 mod building;
 mod classes;
 mod closing;

@@ -1,4 +1,6 @@
 // Tests of unification.
+#![tactic(auto)]
+
 #[cfg(test)]
 mod terms;
 

@@ -1,4 +1,6 @@
 // Whether ways show that the rules of a book follow from its equations.
+#![tactic(auto)]
+
 ghost use Rattle.std.specs.Prelude.{◌≡◌};
 ghost use Rattle.rewriting.specs.Answers.{Tells};
 ghost use Rattle.ways.specs.Showing.{Roomy, Shown};

@@ -1,4 +1,6 @@
 // Tests of ways: which show that the rules follow from the equations, and which don't.
+#![tactic(auto)]
+
 #[cfg(test)]
 mod tests {
     use books::{Book, read_book};

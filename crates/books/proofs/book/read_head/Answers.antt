@@ -6,8 +6,8 @@ use Rattle.books.proofs.Building.{book_parts, book_ranks}
 use Rattle.books.proofs.book.read_head.Goals as goal
 use Rattle.books.proofs.book.read_head.Goals.{then-signs-eq0-via-then-signs-eq0, then-signs-eq0-via-else-signs-eq0+then-signs-gt32}
 use Rattle.books.proofs.book.read_head.Goals.{then-signs-eq0-via-else-signs-eq0+else-signs-gt32+then-words-signs}
-use Rattle.books.proofs.book.read_head.Goals.{then-not-few-parts-via-then-not-few-parts}
-use Rattle.books.proofs.book.read_head.Goals.{then-not-few-parts-via-else-not-few-parts+then-not-all-differ}
+use Rattle.books.proofs.book.read_head.Goals.{then-not-few_parts-via-then-not-few_parts}
+use Rattle.books.proofs.book.read_head.Goals.{then-not-few_parts-via-else-not-few_parts+then-not-all_differ}
 
 pub returns-then-signs-eq0 : goal.returns-then-signs-eq0
 returns-then-signs-eq0 c b r =
@@ -19,17 +19,17 @@ returns-then-signs-eq0 c b r =
       | then-signs-eq0-via-else-signs-eq0+else-signs-gt32+then-words-signs w ↦ omega (arith, w.if-words-signs.true, h.long)
     ]
 
-pub returns-then-not-few-parts : goal.returns-then-not-few-parts
-returns-then-not-few-parts c b r =
+pub returns-then-not-few_parts : goal.returns-then-not-few_parts
+returns-then-not-few_parts c b r =
     let s = c.args.words.now in
     let n = signs_of s in
     let e : 1 + n - 1 ≡ n = omega arith in
     let d : 1 + 2 * n - (1 + n) ≡ n = omega arith in
-    elim c.then-not-few-parts.branch [
-      | then-not-few-parts-via-then-not-few-parts w ↦
-          c.few_parts.ensures.fails w.if-not-few-parts.true (book_parts s b r _ (ap (λ (k : ℕ). take k (drop 1 s)) e))
-      | then-not-few-parts-via-else-not-few-parts+then-not-all-differ w ↦
-          w.all-differ.ensures.fails w.if-not-all-differ.true
+    elim c.then-not-few_parts.branch [
+      | then-not-few_parts-via-then-not-few_parts w ↦
+          c.few_parts.ensures.fails w.if-not-few_parts.true (book_parts s b r _ (ap (λ (k : ℕ). take k (drop 1 s)) e))
+      | then-not-few_parts-via-else-not-few_parts+then-not-all_differ w ↦
+          w.all_differ.ensures.fails w.if-not-all_differ.true
           (book_ranks s b r _ (ap (λ (k : ℕ). take k (drop (1 + n) s)) d))
     ]
 

@@ -7,10 +7,10 @@ use Rattle.books.proofs.book.read_sides.Goals as goal
 pub loop-i-init : goal.loop-i-init
 loop-i-init c = (sides_none c.args.parts.now c.args.words.now c.args.from _ c.requires.1 refl, refl)
 
-pub returns-in-default : goal.returns-in-default
-returns-in-default c =
+pub returns-in_default : goal.returns-in_default
+returns-in_default c =
     no_side c.args.parts.now c.args.words.now c.loop-i.i c.args.count c.args.from c.loop-i.at c.loop-i.starts
-    c.loop-i.invariant.0 c.loop-i-test.true c.in-default.ensures
+    c.loop-i.invariant.0 c.loop-i-test.true c.in_default.ensures
 
 pub returns-then-end-at : goal.returns-then-end-at
 returns-then-end-at c =

@@ -14,13 +14,13 @@ returns-then-at-words c =
           c.if-at-words.true (c.loop.invariant.1.0 p);
     }
 
-pub returns-in-default : goal.returns-in-default
-returns-in-default c =
+pub returns-in_default : goal.returns-in_default
+returns-in_default c =
     let some : 0 < c.args.rules - c.loop.counter = omega arith in
     record {
       holds = λ e. absurd (clash e);
       fails = λ e p. no_way c.args.parts.now c.args.words.now c.loop.at c.if-at-words.false
-          (c.args.rules - c.loop.counter) some c.in-default.ensures (c.loop.invariant.1.0 p);
+          (c.args.rules - c.loop.counter) some c.in_default.ensures (c.loop.invariant.1.0 p);
     }
 
 pub loop-preserved : goal.loop-preserved

@@ -12,20 +12,20 @@ returns-then-pending-words c =
     (sym c.loop-pending.invariant.2
     ∙ left_few c.args.letters c.args.parts.now c.loop-pending.pending (drop c.loop-pending.i c.args.words.now) few)
 
-pub returns-in-default : goal.returns-in-default
-returns-in-default c =
+pub returns-in_default : goal.returns-in_default
+returns-in_default c =
     let room : c.loop-pending.i + 2 ≤ length c.args.words.now = omega arith in
     none_there c.args.letters c.args.parts.now c.args.words.now c.args.count c.args.at
     (sym c.loop-pending.invariant.2
     ∙ no_symbol c.args.letters c.args.parts.now c.args.words.now c.loop-pending.pending c.loop-pending.i
-    c.loop-pending-test.true room (c.in-default.ensures room))
+    c.loop-pending-test.true room (c.in_default.ensures room))
 
-pub returns-in-default-asks : goal.returns-in-default-asks
-returns-in-default-asks c =
+pub returns-in_default-asks : goal.returns-in_default-asks
+returns-in_default-asks c =
     none_there c.args.letters c.args.parts.now c.args.words.now c.args.count c.args.at
     (sym c.loop-pending.invariant.2
     ∙ stuck c.args.letters c.args.parts.now c.args.words.now c.loop-pending.pending c.loop-pending.i
-    c.in-Some.symbol c.loop-pending-test.true c.in-Some.ensures c.in-default-asks.ensures.is)
+    c.in-Some.symbol c.loop-pending-test.true c.in-Some.ensures c.in_default-asks.ensures.is)
 
 pub loop-pending-preserved : goal.loop-pending-preserved
 loop-pending-preserved c = (

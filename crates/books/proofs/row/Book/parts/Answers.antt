@@ -3,8 +3,8 @@ use Rattle.std.proofs.Common.{arith}
 use Rattle.books.proofs.Bookish.{parts_within, parts_cut}
 use Rattle.books.proofs.row.Book.parts.Goals as goal
 
-pub slice-bounds-result-end : goal.slice-bounds-result-end
-slice-bounds-result-end c = omega (arith, parts_within c.args.self.now c.requires c.signs.result c.signs.ensures)
+pub slice_bounds-result-end : goal.slice_bounds-result-end
+slice_bounds-result-end c = omega (arith, parts_within c.args.self.now c.requires c.signs.result c.signs.ensures)
 
 pub returns : goal.returns
 returns c = parts_cut c.args.self.now c.requires c.signs.result c.signs.ensures
