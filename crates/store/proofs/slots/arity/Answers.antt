@@ -4,4 +4,4 @@ use Rattle.store.proofs.slots.arity.Goals as goal
 
 pub returns : goal.returns
 unfolding tag_of
-returns c = c.saturating-sub.ensures
+returns c = c.saturating_sub.ensures

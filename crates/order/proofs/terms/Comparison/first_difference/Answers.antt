@@ -16,10 +16,10 @@ pub returns-then-not-same : goal.returns-then-not-same
 returns-then-not-same c = skips_differ c.args.self.now c.args.n c.args.k c.args.j c.loop-left.left c.loop-left.a
     c.loop-left.b c.loop-left.invariant (omega arith) c.if-not-same.ensures
 
-pub returns-in-default : goal.returns-in-default
-returns-in-default c = skips_no_left c.args.self.now c.args.n c.args.k c.args.j c.loop-left.left c.loop-left.a
-    c.loop-left.b c.loop-left.invariant (omega arith) c.in-default.ensures
+pub returns-in_default : goal.returns-in_default
+returns-in_default c = skips_no_left c.args.self.now c.args.n c.args.k c.args.j c.loop-left.left c.loop-left.a
+    c.loop-left.b c.loop-left.invariant (omega arith) c.in_default.ensures
 
-pub returns-in-default-end : goal.returns-in-default-end
-returns-in-default-end c = skips_no_right c.args.self.now c.args.n c.args.k c.args.j c.loop-left.left c.loop-left.a
-    c.loop-left.b c.loop-left.invariant (omega arith) c.in-default-end.ensures
+pub returns-in_default-end : goal.returns-in_default-end
+returns-in_default-end c = skips_no_right c.args.self.now c.args.n c.args.k c.args.j c.loop-left.left c.loop-left.a
+    c.loop-left.b c.loop-left.invariant (omega arith) c.in_default-end.ensures

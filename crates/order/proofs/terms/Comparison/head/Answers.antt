@@ -6,8 +6,8 @@ use Rattle.books.specs.declared.words.Symbol.TheVariants.{Sign}
 use Rattle.order.proofs.Standing.{no_symbol, letter_stands, sign_stands}
 use Rattle.order.proofs.terms.Comparison.head.Goals as goal
 
-pub returns-in-default : goal.returns-in-default
-returns-in-default c t s = absurd (no_symbol c.args.self.now c.args.k c.in-default.ensures t s)
+pub returns-in_default : goal.returns-in_default
+returns-in_default c t s = absurd (no_symbol c.args.self.now c.args.k c.in_default.ensures t s)
 
 pub returns-in-Letter : goal.returns-in-Letter
 returns-in-Letter c =

@@ -3,11 +3,11 @@ use Rattle.std.proofs.Common.{◌≡◌, ℕ, ◌-◌, ◌*◌, take, drop, subs
 use Rattle.order.proofs.Comparing.{same_not_long, same_not_word, same_more, same_all}
 use Rattle.order.proofs.terms.Comparison.same.Goals as goal
 
-pub returns-in-default : goal.returns-in-default
-returns-in-default c t u s v = absurd (c.in-default.ensures t s)
+pub returns-in_default : goal.returns-in_default
+returns-in_default c t u s v = absurd (c.in_default.ensures t s)
 
-pub returns-in-default-end : goal.returns-in-default-end
-returns-in-default-end c t u s v = absurd (c.in-default-end.ensures u v)
+pub returns-in_default-end : goal.returns-in_default-end
+returns-in_default-end c t u s v = absurd (c.in_default-end.ensures u v)
 
 pub returns-then-m-k : goal.returns-then-m-k
 returns-then-m-k c = same_not_long c.args.self.now c.args.k c.args.j c.in-Some.m c.in-Some-end.n

@@ -19,7 +19,7 @@ pub returns : goal.returns
 returns c =
     let a = c.args.self.now in let s = c.requires.0 in
     let g = one_more a.mask a.words.now a.count c.args.key.now c.push.new.ws c.put.new.ws s.shared s.chains
-    c.requires.1.0 c.in-default.ensures c.push.ensures c.put.ensures (omega arith) (omega arith) (omega arith) in
+    c.requires.1.0 c.in_default.ensures c.push.ensures c.put.ensures (omega arith) (omega arith) (omega arith) in
     record {
       sound = record {
         shared = g.shared;

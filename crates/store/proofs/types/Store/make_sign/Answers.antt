@@ -6,6 +6,6 @@ use Rattle.store.proofs.types.Store.make_sign.Goals as goal
 
 pub returns : goal.returns
 returns c =
-    let h = c.sign-head in
+    let h = c.sign_head in
     made_is c.args.self.now c.args.roots.now _ _ _ c.make.new.self c.make.new.roots c.make.result
     (node_sign _ (kind_of h.result) _ c.args.f c.args.n h.ensures.tag h.ensures.symbol) c.make.ensures

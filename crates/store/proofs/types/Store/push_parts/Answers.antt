@@ -22,6 +22,6 @@ loop-k-preserved c =
     let a = c.args.self.now in let q = c.args.roots.now in let i = c.args.p.0 in let r = c.loop-k.roots in
     let k = c.loop-k.k - 1 in let m = c.args.n - c.loop-k.k in
     let e : c.loop-k.k ≡ k + 1 = omega arith in
-    let x = c.in-default.ensures in
+    let x = c.in_default.ensures in
     pushed_more a q i k m r c.part.result.0 c.push.new.self (subst (λ (o : ℕ). PartsPushed a q i o m r) e c.loop-k.invariant)
     c.part.ensures.is (omega arith) x.0 x.1 _ (omega arith)

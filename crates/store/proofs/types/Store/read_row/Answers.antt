@@ -6,8 +6,8 @@ use Rattle.store.proofs.types.Store.read_row.Goals as goal
 pub loop-k-init : goal.loop-k-init
 loop-k-init c t w = so_far_none c.args.self.now c.args.roots.now t _ c.requires.0.0 c.requires.0.1.0 (omega (arith, symbols w))
 
-pub read-symbol-requires : goal.read-symbol-requires
-read-symbol-requires c =
+pub read_symbol-requires : goal.read_symbol-requires
+read_symbol-requires c =
     let t = c.requires.1.0 in let w = c.requires.1.1 in
     let y = turn c.args.parts.now c.args.words.now c.args.self.now c.args.roots.now t c.loop-k.k
     c.loop-k.self c.loop-k.roots c.requires.0.1.1 w (omega arith) (omega arith) (c.loop-k.invariant t w) in
@@ -19,7 +19,7 @@ returns-in-Err c t w =
     let y = turn c.args.parts.now c.args.words.now a q t c.loop-k.k b r c.requires.0.1.1 w (omega arith) (omega arith)
     (c.loop-k.invariant t w) in
     read_stops c.args.parts.now a q t (c.loop-k.k - 1) b r y.so_far _ _ y.ready y.low
-    c.read-symbol.new.self c.read-symbol.new.roots c.in-Err.full c.truncate.new.self c.in-Err.ensures
+    c.read_symbol.new.self c.read_symbol.new.roots c.in-Err.full c.truncate.new.self c.in-Err.ensures
     c.truncate.ensures
 
 pub loop-k-preserved : goal.loop-k-preserved
@@ -28,7 +28,7 @@ loop-k-preserved c t w =
     let y = turn c.args.parts.now c.args.words.now a q t c.loop-k.k b r c.requires.0.1.1 w (omega arith) (omega arith)
     (c.loop-k.invariant t w) in
     read_more c.args.parts.now a q t (c.loop-k.k - 1) b r y.so_far _ _ y.ready y.low
-    c.read-symbol.new.self c.read-symbol.new.roots c.in-default.field-0 c.in-default.ensures
+    c.read_symbol.new.self c.read_symbol.new.roots c.in_default.field-0 c.in_default.ensures
 
 pub returns : goal.returns
 returns c t w =

@@ -5,8 +5,8 @@ use Rattle.store.specs.Slots.{kind_of}
 use Rattle.store.proofs.Viewing.{kind_low, flagged}
 use Rattle.store.proofs.types.Store.set_normal.Goals as goal
 
-pub overflow-add-head : goal.overflow-add-head
-overflow-add-head c = omega (arith, kind_low c.cell.result)
+pub overflow_add-head : goal.overflow_add-head
+overflow_add-head c = omega (arith, kind_low c.cell.result)
 
 pub returns : goal.returns
 returns c =

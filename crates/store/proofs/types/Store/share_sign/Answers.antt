@@ -5,7 +5,7 @@ use Rattle.store.proofs.types.Store.share_sign.Goals as goal
 pub returns : goal.returns
 returns c =
     let a = c.args.self.now in
-    let h = c.sign-head in
+    let h = c.sign_head in
     let m = c.intern.ensures in
     let found = found_at a c.intern.new.self _ _ c.intern.result c.unwrap.result c.unwrap.ensures m.place
     (sign_of a h.result c.args.f c.args.parts c.args.n c.requires.1.0 h.ensures.tag h.ensures.symbol) in

@@ -19,40 +19,40 @@ returns-in-Err c =
       written = λ f. h.2 (omega (arith, size_some (term_in c.args.self.now c.args.p.0)));
     }
 
-pub returns-in-Err-write-symbol : goal.returns-in-Err-write-symbol
-returns-in-Err-write-symbol c =
-    let a = c.args.self.now in let q = c.args.roots.now in let x = c.in-default.ensures.0 in
-    let s = c.push.new.self in let r = c.loop-roots.roots in let u = c.write-symbol.new.roots in let i = c.loop-roots.invariant in
-    let vs = c.args.out.now in let ws = c.loop-roots.out in let xs = c.write-symbol.new.out in
-    let h = c.in-Err-write-symbol.ensures in let l : q.top < r.top = omega arith in
+pub returns-in-Err-write_symbol : goal.returns-in-Err-write_symbol
+returns-in-Err-write_symbol c =
+    let a = c.args.self.now in let q = c.args.roots.now in let x = c.in_default.ensures.0 in
+    let s = c.push.new.self in let r = c.loop-roots.roots in let u = c.write_symbol.new.roots in let i = c.loop-roots.invariant in
+    let vs = c.args.out.now in let ws = c.loop-roots.out in let xs = c.write_symbol.new.out in
+    let h = c.in-Err-write_symbol.ensures in let l : q.top < r.top = omega arith in
     record {
       top = c.truncate.ensures.top;
       below = below_cut q.top q r u c.truncate.new.self (below_pushed q c.args.p.0 s r x i.below) l h.below
           c.truncate.ensures;
-      written = subst (λ (p : ℕ). WrittenOrShort q (term_in a p) vs xs (Err c.in-Err-write-symbol.short)) x.is
-          (emitted_short a q s (held a s q.top) vs c.loop-roots.at r ws i l x.long u xs c.in-Err-write-symbol.short
+      written = subst (λ (p : ℕ). WrittenOrShort q (term_in a p) vs xs (Err c.in-Err-write_symbol.short)) x.is
+          (emitted_short a q s (held a s q.top) vs c.loop-roots.at r ws i l x.long u xs c.in-Err-write_symbol.short
           h.symbol);
     }
 
 pub loop-roots-smaller : goal.loop-roots-smaller
 loop-roots-smaller c =
     let a = c.args.self.now in let q = c.args.roots.now in let s = c.push.new.self in
-    let h = c.in-default-write-symbol.ensures in
+    let h = c.in_default-write_symbol.ensures in
     fewer a q.top s (held a s q.top) c.args.out.now c.loop-roots.at c.loop-roots.roots c.loop-roots.out
     c.loop-roots.invariant
-    (omega arith) c.write-symbol.new.roots c.write-symbol.new.out h.below h.symbol.0 h.symbol.1 h.symbol.2
+    (omega arith) c.write_symbol.new.roots c.write_symbol.new.out h.below h.symbol.0 h.symbol.1 h.symbol.2
 
 pub loop-roots-preserved : goal.loop-roots-preserved
 loop-roots-preserved c =
     let a = c.args.self.now in let q = c.args.roots.now in let s = c.push.new.self in
-    let h = c.in-default-write-symbol.ensures in
+    let h = c.in_default-write_symbol.ensures in
     emitted_more a q.top s (held a s q.top) c.args.out.now c.loop-roots.at c.loop-roots.roots c.loop-roots.out
     c.loop-roots.invariant
-    (omega arith) c.write-symbol.new.roots c.write-symbol.new.out h.below h.symbol.0 h.symbol.1 h.symbol.2
+    (omega arith) c.write_symbol.new.roots c.write_symbol.new.out h.below h.symbol.0 h.symbol.1 h.symbol.2
 
 pub returns : goal.returns
 returns c =
-    let a = c.args.self.now in let q = c.args.roots.now in let x = c.in-default.ensures.0 in let i = c.loop-roots.invariant in
+    let a = c.args.self.now in let q = c.args.roots.now in let x = c.in_default.ensures.0 in let i = c.loop-roots.invariant in
     let s = c.push.new.self in let r = c.loop-roots.roots in
     let t : held a s q.top ≡ term_in a c.args.p.0 = ap (λ (p : ℕ). term_in a p) x.is in
     let d = emitted_all a q.top s (held a s q.top) c.args.out.now c.loop-roots.at r c.loop-roots.out i (omega arith) in
