@@ -1,12 +1,18 @@
-// Judges a book: whether its rules settle its equations.
+// Judges a book of equations and rules. For now it reads the book, and says what it has read.
 #![tactic(auto)]
 
-use answers::{explanation, judged_line};
-use equal::{Judged, judge};
-use inputs::{Source, Stopped, complain, read_source};
-use options::{Asked, Options, Program, read_arguments};
-use std::alloc::AllocError;
-use std::env;
+use books::read_book;
+use lexing::fault::{Error, Place, place_after};
+use lexing::read_rows;
+use notation::parse;
+use options::{Asked, Options, read_arguments};
+use std::alloc::{AllocError, Global};
+use std::fs::File;
+use std::io::Read;
+use std::{env, io};
+
+// The longest text that is read, in bytes.
+const MOST_TEXT: usize = 262_144;
 
 const HELP: &str = "Usage: judge [--rows] [--work N] [FILE]
 Judges the book of equations and rules in FILE, or on the standard input where there is none or it is `-`.
@@ -16,28 +22,90 @@ Judges the book of equations and rules in FILE, or on the standard input where t
   --version   print the version
 The readable form and the answers are explained in docs/BOOKS.md.";
 
-// The answer on a book, found with so many work words.
-fn answer(rt: &HostRuntime, source: &Source, work: usize) -> Result<Judged, AllocError> {
-    let mut words = vec![in rt.alloc(); 0u32; work]?;
-    Ok(judge(source.words(), source.ways(), words.as_mut_slice()))
+// The program ends with status 1. Why has been told on the standard error.
+struct Stopped;
+
+impl From<io::Error> for Stopped {
+    fn from(_e: io::Error) -> Stopped {
+        Stopped
+    }
 }
 
-// Prints the answer on a line, and what it says.
-fn print_answer(rt: &HostRuntime, source: &Source, answer: Judged) -> Result<(), Stopped> {
-    let line = judged_line(rt.alloc(), answer)?;
-    let words = explanation(rt.alloc(), answer, source.named())?;
-    println!(rt; "{line}\n{words}")?;
-    Ok(())
+impl From<AllocError> for Stopped {
+    fn from(_e: AllocError) -> Stopped {
+        Stopped
+    }
 }
 
-fn judge_file(rt: &HostRuntime, options: Options<'_>) -> Result<(), Stopped> {
-    match read_source(rt, options.book, options.rows) {
-        Ok(source) => {
-            let answer = answer(rt, &source, options.work)?;
-            print_answer(rt, &source, answer)
+// All that the reader gives, but not much more than the longest text.
+fn read_all<R: Read + Drop>(heap: Global, reader: R) -> io::Result<Vec<u8>> {
+    let mut bytes = Vec::with_capacity(heap, MOST_TEXT + 1)?;
+    reader.take(MOST_TEXT as u64 + 1).read_to_end(&mut bytes)?;
+    Ok(bytes)
+}
+
+fn read_input(rt: &HostRuntime, file: Option<&str>) -> io::Result<Vec<u8>> {
+    match file {
+        None | Some("-") => read_all(rt.alloc(), rt.stdin()),
+        Some(name) => read_all(rt.alloc(), File::open(rt, name)?),
+    }
+}
+
+// The first line of the answer.
+fn answer(heap: Global, text: &str, rows: bool) -> Result<String, Error> {
+    let words = if rows {
+        read_rows(heap, text)?.book
+    } else {
+        parse(heap, text)?.words
+    };
+    match read_book(words.as_slice()) {
+        None => Ok(String::from_str(heap, "no book")?),
+        Some(layout) => {
+            let signs = layout.signs();
+            let equations = layout.equations();
+            let rules = layout.rules();
+            Ok(format!(in heap; "a book of {signs} signs, {equations} equations, {rules} rules")?)
         }
-        Err(trouble) => {
-            complain(rt, "judge", options.book, trouble)?;
+    }
+}
+
+// Reads the text of a file, and answers.
+fn judge_bytes(
+    rt: &HostRuntime,
+    name: &str,
+    bytes: &[u8],
+    options: Options<'_>,
+) -> Result<(), Stopped> {
+    if bytes.len() > MOST_TEXT {
+        eprintln!(rt; "judge: {name}: the text has more than {MOST_TEXT} bytes")?;
+        return Err(Stopped);
+    }
+    let text = match std::str::from_utf8(bytes) {
+        Ok(text) => text,
+        Err(e) => {
+            let Place { line, column } = place_after(&bytes[0..e.valid_up_to().min(bytes.len())]);
+            eprintln!(rt; "{name}:{line}:{column}: expected UTF-8")?;
+            return Err(Stopped);
+        }
+    };
+    match answer(rt.alloc(), text, options.rows) {
+        Ok(line) => Ok(println!(rt; "{line}")?),
+        Err(e) => {
+            eprintln!(rt; "{name}:{e}")?;
+            Err(Stopped)
+        }
+    }
+}
+
+fn judge(rt: &HostRuntime, options: Options<'_>) -> Result<(), Stopped> {
+    let name = match options.file {
+        None | Some("-") => "<stdin>",
+        Some(file) => file,
+    };
+    match read_input(rt, options.file) {
+        Ok(bytes) => judge_bytes(rt, name, bytes.as_slice(), options),
+        Err(e) => {
+            eprintln!(rt; "judge: {name}: {e}")?;
             Err(Stopped)
         }
     }
@@ -45,10 +113,10 @@ fn judge_file(rt: &HostRuntime, options: Options<'_>) -> Result<(), Stopped> {
 
 fn main(rt: HostRuntime) -> Result<(), Stopped> {
     let arguments: Vec<String> = env::args(&rt)?.skip(1).collect(rt.alloc())?;
-    match read_arguments(Program::Judge, arguments.as_slice()) {
+    match read_arguments(arguments.as_slice()) {
         Ok(Asked::Help) => println!(rt; "{HELP}")?,
         Ok(Asked::Version) => println!(rt; "judge 0.1.0")?,
-        Ok(Asked::Run(options)) => judge_file(&rt, options)?,
+        Ok(Asked::Judge(options)) => judge(&rt, options)?,
         Err(refusal) => {
             eprintln!(rt; "judge: {refusal}")?;
             return Err(Stopped);

@@ -2,7 +2,7 @@
 #![tactic(auto)]
 
 use inputs::{Source, Stopped, complain, name_of, read_source};
-use options::{Asked, Options, Program, is_stdin, read_arguments};
+use arguments::{Asked, Options, Program, is_stdin, read_arguments};
 use std::env;
 use std::fs::File;
 use std::io::Read;

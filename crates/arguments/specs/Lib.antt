@@ -1,0 +1,2 @@
+-- What the contracts of the command line cite.
+pub mod Requests

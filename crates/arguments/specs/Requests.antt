@@ -1,0 +1,10 @@
+-- What the command line may ask for.
+use Rattle.std.specs.Prelude.{◌≤◌}
+use Rattle.arguments.specs.declared.Asked.{Asked}
+use Rattle.arguments.specs.declared.Asked.TheVariants.{Help, Version, Run}
+
+-- the work words fit beside the other buffers
+abbrev pub Within : Asked → Type 0
+Within Help = Unit {0}
+Within Version = Unit {0}
+Within (Run o) = o.work ≤ 851968
