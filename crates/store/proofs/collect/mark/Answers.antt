@@ -6,5 +6,5 @@ use Rattle.store.proofs.collect.mark.Goals as goal
 
 pub returns : goal.returns
 returns c = roots_marked c.args.ws.now c.clear.new.ws c.mark_roots.new.ws c.mark_reached.new.ws c.args.count
-    (λ k. root_at c.args.cells.now k) c.args.top c.requires.0.0 (omega arith) c.clear.ensures c.mark_roots.ensures
+    (λ k. root_at c.args.cells.now k) c.args.top c.requires.shape.0 (omega arith) c.clear.ensures c.mark_roots.ensures
     c.mark_reached.ensures

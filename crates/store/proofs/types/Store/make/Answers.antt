@@ -7,8 +7,8 @@ pub returns-then-roots-from : goal.returns-then-roots-from
 returns-then-roots-from c =
     let a = c.args.self.now in
     record {
-      sound = c.requires.0.0;
+      sound = c.requires.sound.0;
       room = refl;
       carried = carried_grown a a (grown_same a);
-      roots = (roots_same a c.args.roots.now c.requires.0.1.0, λ h. omega arith);
+      roots = (roots_same a c.args.roots.now c.requires.sound.1.0, λ h. omega arith);
     }
