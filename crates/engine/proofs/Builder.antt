@@ -44,13 +44,13 @@ module _ (ps : List ℕ) (tag num : ℕ) (b : Bindings) (st : Store) (q : Built)
   }
 
   pub sign_built : (xs : List Place) (r : Built) (su : Store) (p : Place) (u : Built) → (tag ≡ 0 → ⊥) →
-      Taken q (get_or ps num 0) xs r → SignShared st num xs (get_or ps num 0) su p → PutOn r p u → r.len < length r.places →
-      SymbolBuilt ps tag num b st q su u
-  sign_built xs r su p u n t s o l = record {
+      Taken q (get_or ps num 0) xs r → SignShared st num xs (get_or ps num 0) su p →
+      ((i : ℕ) → st.count ≤ i → i < su.count → i ≡ p.0) → PutOn r p u → r.len < length r.places → SymbolBuilt ps tag num b st q su u
+  sign_built xs r su p u n t s new o l = record {
     sound = s.sound;
     grown = s.grown;
     few = s.few;
-    signs = λ i x l m e. let z : i ≡ p.0 = s.new i l m in no_letter (sym (ap (λ (n : ℕ). term_in su n) z ∙ s.term) ∙ e);
+    signs = λ i x l m e. let z : i ≡ p.0 = new i l m in no_letter (sym (ap (λ (n : ℕ). term_in su n) z ∙ s.term) ∙ e);
     inside = on_inside su r p u o l
         (inside_grown st su r.places r.len s.grown (taken_inside st q (get_or ps num 0) xs r t can.inside)) s.inside;
     letter = λ z. absurd (n z);

@@ -1,36 +1,27 @@
 -- Chains: searching along them, and what keeps them or makes them longer.
-use Rattle.std.proofs.Common.{◌≡◌, ℕ, zero, suc, ◌+◌, ◌-◌, ◌/◌, ◌%◌, ◌<◌, ◌≤◌, ◌⊎◌, List, length, get_or, sym, refl, ap, ◌∙◌, subst, ap₂, ⊎_elim, eq-or-lt_of_le, arith}
+use Rattle.std.proofs.Common.{◌≡◌, ℕ, zero, suc, ◌+◌, ◌-◌, ◌/◌, ◌<◌, ◌≤◌, ◌⊎◌, List, length, get_or, sym, refl, ap, ◌∙◌, subst, ⊎_elim, eq-or-lt_of_le, add-one, arith}
 use lib.Bits.{bit_and}
 use Rattle.store.specs.declared.types.Key.{Key}
 use Rattle.store.specs.Cells.{cell, HasSlot}
 use Rattle.store.specs.Slots.{tag_of, arity_of, kind_of, kind_at, part_at, link_at, last_at, Shape, FitsIn, Added, Alike}
-use Rattle.store.specs.Chains.{mix_of, hash_of, first_of, bucket_of, bucket_at, key_bucket, Last, Chains, Holds, Searched, Pushed}
+use Rattle.store.specs.Chains.{mix_of, hash_of, bucket_of, bucket_at, key_bucket, Last, Chains, Holds, Searched, Pushed}
 use Rattle.store.proofs.Cases.{le_or_lt, eq_or, last_or_below}
 use Rattle.store.proofs.Decoding.{alike}
 
-pub hash_next : (h : ℕ) (p : ℕ → ℕ) (k : ℕ) → 1 ≤ k → hash_of h p (k + 1 - 1) ≡ mix_of (hash_of h p (k - 1)) (p k)
-hash_next h p zero l = absurd (omega arith)
-hash_next h p (suc k) l =
-    let e : suc k + 1 - 1 ≡ suc k = omega arith in
-    let d : k ≡ suc k - 1 = omega arith in
-    ap (hash_of h p) e ∙ ap (λ (x : ℕ). mix_of (hash_of h p x) (p (suc k))) d
+pub hash_more : (h : ℕ) (p : ℕ → ℕ) (k : ℕ) → hash_of h p (k + 1) ≡ mix_of (hash_of h p k) (p k)
+hash_more h p k = ap (hash_of h p) (add-one k)
 
 -- the same kind and parts: the same bucket
-hash_same : (h : ℕ) (p q : ℕ → ℕ) (n : ℕ) → ((m : ℕ) → m < n → p (suc m) ≡ q (suc m)) → hash_of h p n ≡ hash_of h q n
+hash_same : (h : ℕ) (p q : ℕ → ℕ) (n : ℕ) → ((m : ℕ) → m < n → p m ≡ q m) → hash_of h p n ≡ hash_of h q n
 hash_same h p q zero e = refl
 hash_same h p q (suc n) e =
-    ap (λ (x : ℕ). mix_of x (p (suc n))) (hash_same h p q n (λ m l. e m (omega arith))) ∙ ap (mix_of (hash_of h q n)) (e n (omega arith))
-
-first_same : (k : ℕ) (p q : ℕ → ℕ) (n : ℕ) → ((m : ℕ) → m < n → p m ≡ q m) → first_of k p n ≡ first_of k q n
-first_same k p q zero e = refl
-first_same k p q (suc n) e = e 0 (omega arith)
+    ap (λ (x : ℕ). mix_of x (p n)) (hash_same h p q n (λ m l. e m (omega arith))) ∙ ap (mix_of (hash_of h q n)) (e n (omega arith))
 
 pub bucket_same : (mask k j : ℕ) (p q : ℕ → ℕ) → k ≡ j → ((m : ℕ) → m < arity_of k → p m ≡ q m) → bucket_of mask k p ≡ bucket_of mask j q
 unfolding bucket_of
 bucket_same mask k j p q e h =
-    ap₂ (λ (x y : ℕ). bit_and ((x + y / 4294967296) % 18446744073709551616) mask) (first_same k p q (arity_of k) h)
-    (hash_same k p q (arity_of k - 1) (λ m l. h (suc m) (omega arith)))
-    ∙ ap (λ (x : ℕ). bucket_of mask x q) e
+    ap (λ (x : ℕ). bit_and (x / 4294967296) mask) (hash_same k p q (arity_of k) h)
+    ∙ ap (λ (x : ℕ). bit_and (hash_of x q (arity_of x) / 4294967296) mask) e
 
 holds_bucket : (mask : ℕ) (ws : List ℕ) (j : ℕ) (key : Key) → Holds ws j key → bucket_at mask ws j ≡ key_bucket mask key
 holds_bucket mask ws j key o = bucket_same mask (kind_at ws j) (kind_of key.head) (λ k. part_at ws j k) (λ k. get_or key.parts k 0)

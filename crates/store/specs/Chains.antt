@@ -4,23 +4,17 @@ use Rattle.store.specs.declared.types.Key.{Key}
 use Rattle.store.specs.Cells.{cell, HasSlot}
 use Rattle.store.specs.Slots.{kind_of, arity_of, kind_at, part_at, link_at, last_at, note_at}
 
--- the hash of a kind k and its parts p 1, .., p n: each is added, and the sum multiplied by 2^64 over the golden ratio
+-- the hash of a kind k and its parts p 0, p 1, ..: each is added, and the sum multiplied by 2^64 over the golden ratio
 unfoldable pub mix_of : ℕ → ℕ → ℕ
 mix_of h x = (h + x) % 18446744073709551616 * 11400714819323198485 % 18446744073709551616
 
 abbrev pub hash_of : ℕ → (ℕ → ℕ) → ℕ → ℕ
-hash_of k p zero = k
-hash_of k p (suc n) = mix_of (hash_of k p n) (p (suc n))
+hash_of k p zero = mix_of k 0
+hash_of k p (suc n) = mix_of (hash_of k p n) (p n)
 
--- the first part, or the kind if there is none
-abbrev pub first_of : ℕ → (ℕ → ℕ) → ℕ → ℕ
-first_of k p zero = k
-first_of k p (suc n) = p 0
-
--- the bucket: the first part and the hash's upper bits, below the mask
+-- the bucket: the hash's upper bits, below the mask
 unfoldable pub bucket_of : ℕ → ℕ → (ℕ → ℕ) → ℕ
-bucket_of mask k p =
-    bit_and ((first_of k p (arity_of k) + hash_of k p (arity_of k - 1) / 4294967296) % 18446744073709551616) mask
+bucket_of mask k p = bit_and (hash_of k p (arity_of k) / 4294967296) mask
 
 abbrev pub bucket_at : ℕ → List ℕ → ℕ → ℕ
 bucket_at mask ws i = bucket_of mask (kind_at ws i) (λ k. part_at ws i k)

@@ -82,7 +82,6 @@ pub record SignShared (a : Store) (f : ℕ) (ps : List Place) (n : ℕ) (b : Sto
   pub few : b.count ≤ a.count + 1
   pub inside : p.0 < b.count
   pub term : term_in b p.0 ≡ sign f (terms_at a ps n)
-  pub new : (i : ℕ) → a.count ≤ i → i < b.count → i ≡ p.0
 
 -- the place of the letter x, which was there or is added
 pub record LetterShared (a : Store) (x : ℕ) (b : Store) (p : Place) : Type 0 where

@@ -1,8 +1,8 @@
 // Chains of slots by hash: finding the slot of a key, and adding one.
-ghost use Rattle.std.specs.Prelude.{◌≡◌, ◌+◌, ◌<◌, ◌≤◌, true, false, slice_index};
+ghost use Rattle.std.specs.Prelude.{◌≡◌, ◌+◌, ◌<◌, ◌≤◌, true, false};
 ghost use Rattle.store.specs.Cells.{HasSlot};
 ghost use Rattle.store.specs.Slots.{kind_of, tag_of, Shape, FitsIn};
-ghost use Rattle.store.specs.Chains.{mix_of, first_of, key_bucket, Chains, Found, Holds, Pushed};
+ghost use Rattle.store.specs.Chains.{mix_of, key_bucket, Chains, Found, Holds, Pushed};
 
 use crate::slots::{HEAD, LAST, LINK, arity, get, kind, part, put, put_slot};
 use crate::types::Key;
@@ -18,27 +18,18 @@ fn mix(h: usize, x: usize) -> usize
     h.wrapping_add(x).wrapping_mul(GOLDEN)
 }
 
-// The first of n parts, or the kind if there is none.
-fn first(kind: usize, n: usize, parts: &[usize; 4]) -> usize
-    ensures { result ≡ first_of kind (λ k. slice_index parts.now k) n }
-{
-    if n == 0 { kind } else { parts[0] }
-}
-
-// The bucket of a key. What differs only in the first part goes to neighbouring buckets, so that towers and lists stay in the cache.
+// The bucket of a key.
 fn bucket(mask: usize, key: &Key) -> usize
     requires { tag_of (kind_of key.now.head) ≤ 5 }
     ensures is { result ≡ key_bucket mask key.now }
     ensures low { result ≤ mask }
 {
     let kind = kind(key.head);
-    let n = arity(kind);
-    let first = first(kind, n, &key.parts);
-    let mut h = kind;
-    for k in 1..n {
+    let mut h = mix(kind, 0);
+    for k in 0..arity(kind) {
         h = mix(h, key.parts[k]);
     }
-    first.wrapping_add(h >> WORD_BITS) & mask
+    h >> WORD_BITS & mask
 }
 
 // Whether slot i is what the key says.

@@ -233,7 +233,8 @@ impl Store<'_> {
     // The place of the sign f with the first n places as parts, below the limit.
     pub fn share_sign(&mut self, f: u32, parts: [Place; 4], n: usize) -> Place
         requires { (Sound self.old) × ((n ≤ 4) × ((PartsInside self.old parts n) × (self.old.count < self.old.limit))) }
-        ensures { SignShared self.old f parts n self.new result }
+        ensures shared { SignShared self.old f parts n self.new result }
+        ensures new { (i : ℕ) → self.old.count ≤ i → i < self.new.count → i ≡ result.0 }
     {
         let key = Key {
             head: sign_head(f, n),

@@ -2,8 +2,8 @@
 use Rattle.store.proofs.Sharing.{sign_of, found_at, new_is}
 use Rattle.store.proofs.types.Store.share_sign.Goals as goal
 
-pub returns : goal.returns
-returns c =
+pub returns-clause-shared : goal.returns-clause-shared
+returns-clause-shared c =
     let a = c.args.self.now in
     let h = c.sign_head in
     let m = c.intern.ensures in
@@ -15,5 +15,8 @@ returns c =
       few = m.few;
       inside = found.0;
       term = found.1;
-      new = λ i l h. new_is i c.intern.result c.unwrap.result c.unwrap.ensures (m.new i l h);
     }
+
+pub returns-clause-new : goal.returns-clause-new
+returns-clause-new c i l h =
+    new_is i c.intern.result c.unwrap.result c.unwrap.ensures (c.intern.ensures.new i l h)
