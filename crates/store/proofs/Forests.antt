@@ -1,9 +1,9 @@
 -- The terms of a row from symbol k on, and the roots that hold them, the first uppermost.
-use Rattle.std.proofs.Common.{◌≡◌, ℕ, zero, suc, ◌+◌, ◌-◌, ◌*◌, ◌<◌, ◌≤◌, ◌⊎◌, List, drop, sym, refl, ap, ◌∙◌, subst, ⊎_elim, arith, drop-drop}
+use Rattle.std.proofs.Common.{◌≡◌, ℕ, zero, suc, ◌+◌, ◌-◌, ◌*◌, ◌<◌, ◌≤◌, List, drop, sym, refl, ap, ◌∙◌, subst, ⊎_elim, arith, drop-drop}
 use Rattle.rewriting.specs.Terms.{Term, letter, sign, Terms, none1, and1, count, sizes, AllOver, glue}
 use Rattle.rewriting.specs.Rules.{Part, itself, in_part, Parts, in_this, in_later}
 use Rattle.rewriting.proofs.Different.{part_trans}
-use Rattle.books.specs.Rows.{row, rows}
+use Rattle.books.specs.Rows.{rows}
 use Rattle.books.proofs.Forests.{behind, behind_rows, behind_over, behind_sizes}
 use Rattle.store.specs.declared.types.Store.{Store}
 use Rattle.store.specs.declared.types.Roots.{Roots}

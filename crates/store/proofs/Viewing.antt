@@ -1,5 +1,5 @@
 -- What a kind shows, and that a flag changes no kind.
-use Rattle.std.proofs.Common.{◌≡◌, ℕ, ◌+◌, ◌<◌, true, ◌⊎◌, List, length, sym, ap, ◌∙◌, subst, ⊎_elim, add-one, arith, le-leb}
+use Rattle.std.proofs.Common.{◌≡◌, ℕ, ◌+◌, ◌<◌, true, List, length, sym, ap, ◌∙◌, subst, ⊎_elim, add-one, arith, le-leb}
 use Rattle.rewriting.specs.Terms.{Term, letter, sign}
 use Rattle.store.specs.Cells.{cell, CellPut}
 use Rattle.store.specs.Slots.{symbol_of, tag_of, kind_of, flag_of, kind_at, parts_by, node_by, node, term_of, Shared, Alike}

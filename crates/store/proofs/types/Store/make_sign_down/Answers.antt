@@ -1,5 +1,5 @@
 -- The head is a sign's, and its parts are the roots from the uppermost down.
-use Rattle.std.proofs.Common.{◌-◌, ap, ◌∙◌, arith}
+use Rattle.std.proofs.Common.{ap, ◌∙◌, arith}
 use Rattle.rewriting.specs.Terms.{sign}
 use Rattle.store.specs.Slots.{kind_of}
 use Rattle.store.proofs.Viewing.{node_sign}

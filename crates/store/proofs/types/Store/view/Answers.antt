@@ -1,5 +1,5 @@
 -- The term of a slot is the node of its kind.
-use Rattle.std.proofs.Common.{◌≡◌, ◌+◌, ◌-◌, ◌≤◌, sym, ap, ◌∙◌, arith}
+use Rattle.std.proofs.Common.{◌≡◌, ◌+◌, ◌≤◌, sym, ap, ◌∙◌, arith}
 use Rattle.store.specs.Slots.{kind_of, kind_at, tag_of, symbol_of}
 use Rattle.store.proofs.Decoding.{term_is}
 use Rattle.store.proofs.Viewing.{node_letter, node_sign}
