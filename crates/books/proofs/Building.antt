@@ -1,6 +1,6 @@
 -- Words whose parts are in order are a book; words with one that isn't are none.
-use Rattle.std.proofs.Common.{◌≡◌, ℕ, zero, suc, ◌+◌, ◌-◌, ◌*◌, ◌<◌, ◌≤◌, List, [], ◌∷◌, ◌++◌, length, get_or, take, drop, Some, None, Option as Maybe, sym, refl, ap, ◌∙◌, subst, ap₂, append_assoc, append-nil, arith, length-drop, length-take-le}
-use mathlib.Core.Option.{Option, some, none}
+use Rattle.std.proofs.Common.{◌≡◌, ℕ, ◌+◌, ◌-◌, ◌*◌, ◌<◌, ◌≤◌, List, [], ◌∷◌, ◌++◌, length, get_or, take, drop, None, Option as Maybe, sym, refl, ap, ◌∙◌, subst, ap₂, append-nil, arith, length-drop, length-take-le}
+use mathlib.Core.Option.{some}
 use native.Mathlib.Decide.{dec_lt}
 use lib.Seq.{drop-length}
 use Rattle.rewriting.specs.Terms.{nth, Term, letter, Terms, none1, and1, count, AllOver, SmallLetter}
@@ -11,14 +11,13 @@ use Rattle.books.specs.Rows.{rows, rowEs, rowB, Reads}
 use Rattle.books.specs.Reading.{read, terms_of, others, paired}
 use Rattle.books.specs.Reading.{book_of, signs_of, parts_of, ranks_of, eqs_of, rules_of, body_of}
 use Rattle.books.specs.Layouts.{sides, sides_of, listed, Laid, FewParts, AllDiffer, HeadFine, Short, SidesAt, SidesRead, BookRead}
-use Rattle.books.specs.Indexing.{top_word, Indexed}
 use Rattle.books.specs.declared.layout.Layout.{Layout}
 use Rattle.books.specs.declared.words.Letters.TheVariants.{Small}
 use Rattle.books.proofs.Glueing.{count_others, over_others}
 use Rattle.books.proofs.Reading.{read_these}
 use Rattle.books.proofs.Elements.{nth_getD, nth_below, nth_is}
 use Rattle.books.proofs.Heads.{head_of, words_are}
-use Rattle.books.proofs.Sided.{terms, terms_listed, count_terms, rows_both, length_sides, over_sides, short_sides}
+use Rattle.books.proofs.Sided.{terms, terms_listed, count_terms, rows_both, short_sides}
 use Rattle.books.proofs.Sided.{sides_paired, length_paired, listed_paired}
 use Rattle.books.proofs.Siding.{short_others}
 use Rattle.books.proofs.Unique.{sides_count, all_over_sides}
@@ -134,14 +133,13 @@ module _ (s starts : List ℕ) (hf : HeadFine s)
       omega (arith, a.long, a.within, size_some t)
 
   pub is_laid : (l : Layout) → l.signs ≡ signs_of s → l.equations ≡ eqs_of s → l.rules ≡ rules_of s → l.starts ≡ starts →
-      Indexed (λ i. top_word s l.starts l.equations i) l.rules l.index → Laid s (book_of s) l
+      Laid s (book_of s) l
   unfolding book_of
-  is_laid l p q r e x = record {
+  is_laid l p q r e = record {
     signs = p ∙ sym parts_length;
     equations = q ∙ sym eqs_length;
     rules = r ∙ sym rules_length;
     at = λ i t k. rw e (sd.each i t (subst (λ (ts : List Term). nth ts i ≡ some t) sides_are k));
-    indexed = x;
   }
 
 -- the sides, in the numbers that a program has

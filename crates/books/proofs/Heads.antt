@@ -1,8 +1,6 @@
 -- The numbers at the start of a book's row.
-use Rattle.std.proofs.Common.{◌≡◌, ℕ, zero, suc, ◌+◌, ◌-◌, ◌*◌, ◌<◌, ◌≤◌, List, [], ◌∷◌, ◌++◌, length, get_or, take, drop, sym, refl, ap, ◌∙◌, subst, append_assoc, one-add, arith, length-append, length-drop, take-append-drop, length-take-le, drop-cons, drop-drop, get_or-append-add}
-use mathlib.Core.Option.{Option, some, none}
+use Rattle.std.proofs.Common.{◌≡◌, ℕ, suc, ◌+◌, ◌*◌, ◌<◌, ◌≤◌, List, ◌∷◌, ◌++◌, length, get_or, take, drop, sym, refl, ap, ◌∙◌, subst, append_assoc, one-add, arith, length-append, take-append-drop, drop-cons, drop-drop, get_or-append-add}
 use lib.Seq.{take-append_seam, drop-append_seam, drop-append-add}
-use Rattle.rewriting.specs.Rules.{Eq}
 use Rattle.rewriting.specs.Books.{Book}
 use Rattle.books.specs.Rows.{Reads, rowEs, rowB}
 use Rattle.books.specs.Reading.{signs_of, parts_of, ranks_of, eqs_of, rules_of, body_of}

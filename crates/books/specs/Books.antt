@@ -1,7 +1,6 @@
 -- A book by its words: its equations and rules, and where their sides stand.
-use Rattle.std.specs.Prelude.{◌≡◌, ℕ, ◌+◌, ◌*◌, List, length, slice_index_or}
-use Rattle.std.proofs.Math.Option.{some}
-use Rattle.rewriting.specs.Terms.{nth, letter}
+use Rattle.std.specs.Prelude.{ℕ, List, slice_index_or}
+use Rattle.rewriting.specs.Terms.{letter}
 use Rattle.rewriting.specs.Rules.{Eq}
 use Rattle.rewriting.specs.Books.{Book as Told}
 use Rattle.books.specs.Rows.{Reads}

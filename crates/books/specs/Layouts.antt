@@ -6,7 +6,6 @@ use Rattle.rewriting.specs.Rules.{Eq}
 use Rattle.rewriting.specs.Books.{Book}
 use Rattle.books.specs.Rows.{Reads, rows}
 use Rattle.books.specs.Reading.{TermAt, book_of, signs_of, parts_of, ranks_of, eqs_of, rules_of, body_of}
-use Rattle.books.specs.Indexing.{top_word, Indexed}
 use Rattle.books.specs.declared.book.Head.{Head}
 use Rattle.books.specs.declared.layout.Layout.{Layout}
 
@@ -18,13 +17,12 @@ sides (e ∷ es) = e.left ∷ e.right ∷ sides es
 abbrev pub sides_of : Book → List Term
 sides_of b = sides b.eqs ++ sides b.rules
 
--- each side stands from its start to its end, and the rules are found by their top signs
+-- each side stands from its start to its end
 pub record Laid (s : List ℕ) (b : Book) (l : Layout) : Type 0 where
   pub signs : l.signs ≡ length b.parts
   pub equations : l.equations ≡ length b.eqs
   pub rules : l.rules ≡ length b.rules
   pub at : (i : ℕ) (t : Term) → nth (sides_of b) i ≡ some t → TermAt s (slice_index l.starts i) (slice_index l.starts (i + 1)) t
-  pub indexed : Indexed (λ i. top_word s l.starts l.equations i) l.rules l.index
 
 -- the words are the one book that they say, laid out so; or they are none
 abbrev pub BookRead : List ℕ → Maybe Layout → Type 0

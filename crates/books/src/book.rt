@@ -7,7 +7,6 @@ ghost use Rattle.books.specs.Layouts.{HeadRead};
 ghost use Rattle.books.specs.Layouts.{SidesRead};
 ghost use Rattle.books.specs.Layouts.{BookRead};
 
-use crate::index::index_rules;
 use crate::layout::Layout;
 use crate::words::{Letters, term_end};
 
@@ -117,12 +116,10 @@ pub fn read_book(words: &[u32]) -> Option<Layout>
     let Some(starts) = read_sides(parts, words, 3 + 2 * head.signs, sides) else {
         return None;
     };
-    let index = index_rules(words, &starts, head.equations, head.rules);
     Some(Layout {
         signs: head.signs,
         equations: head.equations,
         rules: head.rules,
         starts,
-        index,
     })
 }

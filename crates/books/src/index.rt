@@ -1,5 +1,5 @@
 // The rules of a book by their top signs.
-ghost use Rattle.std.specs.Prelude.{ℕ, ◌+◌, ◌*◌, ◌<◌, ◌≤◌, length, slice_index};
+ghost use Rattle.std.specs.Prelude.{◌≡◌, ℕ, ◌+◌, ◌*◌, ◌<◌, ◌≤◌, length, slice_index};
 ghost use Rattle.books.specs.Indexing.{Indexed};
 ghost use Rattle.books.specs.Indexing.{top_word};
 
@@ -8,6 +8,24 @@ ghost use Rattle.books.specs.Indexing.{top_word};
 pub struct Index {
     pub(crate) first: [usize; 32],
     pub(crate) next: [usize; 64],
+}
+
+impl Index {
+    // The first rule whose top sign is f, or the number of rules.
+    pub fn first_with(&self, f: u32) -> usize
+        requires { f < 32 }
+        ensures { result ≡ slice_index self.now.first f }
+    {
+        self.first[f as usize]
+    }
+
+    // The next rule after rule i with the same top sign, or the number of rules.
+    pub fn next_like(&self, i: usize) -> usize
+        requires { i < 64 }
+        ensures { result ≡ slice_index self.now.next i }
+    {
+        self.next[i]
+    }
 }
 
 // The index of rules whose left sides start where the starts say, after those of some equations.

@@ -1,7 +1,5 @@
-// Where the sides of a book stand in its row, and its rules by their top signs.
-ghost use Rattle.std.specs.Prelude.{◌≡◌, ◌<◌, slice_index};
-
-use crate::index::Index;
+// Where the sides of a book stand in its row.
+ghost use Rattle.std.specs.Prelude.{◌≡◌, slice_index};
 
 // Side i stands from starts[i] up to starts[i + 1]. Each equation and rule has two, its left and its right, the equations first.
 #[derive(Clone, Copy)]
@@ -10,7 +8,6 @@ pub struct Layout {
     pub(crate) equations: usize,
     pub(crate) rules: usize,
     pub(crate) starts: [usize; 257],
-    pub(crate) index: Index,
 }
 
 impl Layout {
@@ -41,21 +38,5 @@ impl Layout {
         } else {
             0
         }
-    }
-
-    // The first rule whose top sign is f, or the number of rules.
-    pub fn first_with(&self, f: u32) -> usize
-        requires { f < 32 }
-        ensures { result ≡ slice_index self.now.index.first f }
-    {
-        self.index.first[f as usize]
-    }
-
-    // The next rule after rule i with the same top sign, or the number of rules.
-    pub fn next_like(&self, i: usize) -> usize
-        requires { i < 64 }
-        ensures { result ≡ slice_index self.now.index.next i }
-    {
-        self.index.next[i]
     }
 }

@@ -1,6 +1,6 @@
 -- The numbers and the sides make the book.
-use Rattle.std.proofs.Common.{ℕ, ◌+◌, ◌*◌, ◌<◌, ◌≤◌, length, get_or, Some, None, sym, refl, subst, arith}
-use Rattle.books.proofs.Building.{sides_here, is_book, start_within, is_laid, other_sides}
+use Rattle.std.proofs.Common.{Some, None, refl}
+use Rattle.books.proofs.Building.{sides_here, is_book, is_laid, other_sides}
 use Rattle.books.proofs.book.read_book.Goals as goal
 
 pub returns-in_default-read_sides : goal.returns-in_default-read_sides
@@ -10,19 +10,6 @@ returns-in_default-read_sides c =
     other_sides c.args.words.now
     (sides_here c.args.words.now d.signs d.equations d.rules None h.1 h.2 h.3 c.in_default-read_sides.ensures)
 
-pub index_rules-index-requires : goal.index_rules-index-requires
-index_rules-index-requires c =
-    let s = c.args.words.now in
-    let h = c.in-Some.ensures in
-    let d = c.in-Some.head in
-    let starts = c.in-Some-read_sides.starts in
-    let at = sides_here s d.signs d.equations d.rules (Some starts) h.1 h.2 h.3 c.in-Some-read_sides.ensures in
-    let W : ℕ → Type 0 = λ e. (i : ℕ) → i < d.rules → get_or starts (2 * (e + i)) 0 + 2 ≤ length s in
-    record {
-      equations_bound = (omega (arith, h.2, h.0.few_eqs), omega (arith, h.3, h.0.few_rules));
-      by_index = subst W (sym h.2) (λ i l. start_within s starts h.0 at i (omega (arith, h.3)));
-    }
-
 pub returns : goal.returns
 returns c =
     let s = c.args.words.now in
@@ -30,4 +17,4 @@ returns c =
     let d = c.in-Some.head in
     let starts = c.in-Some-read_sides.starts in
     let at = sides_here s d.signs d.equations d.rules (Some starts) h.1 h.2 h.3 c.in-Some-read_sides.ensures in
-    (is_book s starts h.0 at, is_laid s starts h.0 at _ h.1 h.2 h.3 refl c.index_rules-index.ensures)
+    (is_book s starts h.0 at, is_laid s starts h.0 at _ h.1 h.2 h.3 refl)
