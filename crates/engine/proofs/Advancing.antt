@@ -1,11 +1,10 @@
 -- What a term comes to at once.
-use Rattle.std.proofs.Common.{◌≡◌, ℕ, ◌+◌, ◌-◌, ◌<◌, true, List, Some, None, sym, refl, subst, arith}
+use Rattle.std.proofs.Common.{◌≡◌, ◌<◌, true, List, Some, None, sym, refl, subst, arith}
 use Rattle.rewriting.specs.Rules.{Eq, Steps, stay, Done}
 use Rattle.rewriting.specs.Machine.{Still}
 use Rattle.store.specs.declared.types.Store.{Store}
 use Rattle.store.specs.declared.types.Place.{Place}
-use Rattle.store.specs.Stores.{Sound, term_in, flag_in, note_in, FlagSet}
-use Rattle.engine.specs.declared.types.Focus.{Focus}
+use Rattle.store.specs.Stores.{Sound, term_in, flag_in, FlagSet}
 use Rattle.engine.specs.declared.types.Focus.TheVariants.{Eval, Back}
 use Rattle.engine.specs.Rewriting.{Rewritten}
 use Rattle.engine.specs.Running.{Honest, Holding}

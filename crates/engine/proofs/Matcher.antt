@@ -12,7 +12,7 @@ use Rattle.books.specs.declared.words.Symbol.TheVariants.{Letter, Sign}
 use Rattle.books.proofs.Glueing.{over_glue}
 use Rattle.rewriting.proofs.Glueing.{count_glue, count_sizes, size_some, puts_glue, glue_apart}
 use Rattle.rewriting.proofs.Replacing.{count_puts}
-use Rattle.books.proofs.Forests.{opened, behind, behind_sizes, behind_rows, behind_over}
+use Rattle.books.proofs.Forests.{opened, behind_sizes, behind_rows, behind_over}
 use Rattle.store.specs.declared.types.Store.{Store}
 use Rattle.store.specs.declared.types.Place.{Place}
 use Rattle.store.specs.Stores.{term_in}

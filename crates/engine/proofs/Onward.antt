@@ -1,7 +1,7 @@
 -- A turn that goes from one part of a sign to the next.
 use Rattle.std.proofs.Common.{◌≡◌, ℕ, suc, ◌+◌, ◌-◌, ◌<◌, List, ◌∷◌, sym, refl, ap, ◌∙◌, subst, ap₂, arith}
 use native.Mathlib.Decide.{ℕ_discrete}
-use Rattle.rewriting.specs.Terms.{Term, sign, Terms, and1}
+use Rattle.rewriting.specs.Terms.{Term, Terms, and1}
 use Rattle.rewriting.specs.Rules.{Eq}
 use Rattle.rewriting.specs.Machine.{frame, eval, back, state, around, behind, Move, go_on, rest}
 use Rattle.rewriting.specs.Machine.{Frame as ModelFrame}

@@ -4,7 +4,7 @@ use native.Mathlib.Decide.{dec_lt}
 use Rattle.rewriting.specs.Terms.{Term}
 use Rattle.rewriting.specs.Rules.{Eq, Part}
 use Rattle.rewriting.specs.Different.{different, listed, PartOf, of_first, of_later}
-use Rattle.rewriting.specs.Machine.{eval, back, state, frames, plug, whole}
+use Rattle.rewriting.specs.Machine.{eval, back, state, plug, whole}
 use Rattle.rewriting.specs.Machine.{Frame as ModelFrame}
 use Rattle.rewriting.proofs.Different.{part_trans, part_of_listed, part_in_listed, listed_same, different_mono}
 use Rattle.rewriting.proofs.Depth.{depth}
@@ -21,7 +21,7 @@ use Rattle.engine.specs.declared.types.Focus.{Focus}
 use Rattle.engine.specs.declared.types.Focus.TheVariants.{Eval, Back}
 use Rattle.engine.specs.Frames.{frame_at, Forgotten}
 use Rattle.engine.specs.Running.{Framed, focus_place, focus_of, frames_of, frames_in, state_in, Asks, AskedFor, Running}
-use Rattle.engine.specs.Turning.{KeptBelow, SpaceForTurn}
+use Rattle.engine.specs.Turning.{KeptBelow}
 use Rattle.engine.specs.Spacing.{focus_at, Collected, Wanting, few_slots, few_words, few_cells, Halted, WithSpace}
 use Rattle.engine.proofs.Honesty.{honest_carried}
 use Rattle.engine.proofs.Contexts.{frames_same, framed_same, framed_low, frames_length, asks_map, root_part}

@@ -11,11 +11,11 @@ returns-then-same c =
 pub returns-then-same-2 : goal.returns-then-same-2
 returns-then-same-2 c =
     one_form c.args.book.now c.args.store.now c.args.roots.now c.args.frames.now
-    c.both-normal.new.store c.both-normal.new.roots c.both-normal.new.frames c.if-not-both-normal.ensures
+    c.both_normal.new.store c.both_normal.new.roots c.both_normal.new.frames c.if-not-both_normal.ensures
     c.place-3.result.0 c.place-4.result.0 c.place-3.ensures c.place-4.ensures (c.if-same-2.ensures.yes refl)
 
 pub returns : goal.returns
 returns c =
     two_forms c.args.book.now c.args.store.now c.args.roots.now c.args.frames.now
-    c.both-normal.new.store c.both-normal.new.roots c.both-normal.new.frames c.if-not-both-normal.ensures
+    c.both_normal.new.store c.both_normal.new.roots c.both_normal.new.frames c.if-not-both_normal.ensures
     c.place-3.result.0 c.place-4.result.0 c.place-3.ensures c.place-4.ensures (c.if-same-2.ensures.no refl)

@@ -12,9 +12,9 @@ returns-in-Eval c low ready =
     let st = c.args.store.now in
     let q = c.args.roots.now in
     let fr = c.args.frames.now in
-    let w = subst (WithSpace (told b).rules low st q fr c.args.focus c.with-space.new.store c.with-space.new.roots
-    c.with-space.new.frames) c.in-Eval.is (c.in-Some.ensures (told b).rules low ready.running) in
-    went b low st q fr c.args.focus c.with-space.new.store c.with-space.new.roots c.with-space.new.frames
+    let w = subst (WithSpace (told b).rules low st q fr c.args.focus c.with_space.new.store c.with_space.new.roots
+    c.with_space.new.frames) c.in-Eval.is (c.in-Some.ensures (told b).rules low ready.running) in
+    went b low st q fr c.args.focus c.with_space.new.store c.with_space.new.roots c.with_space.new.frames
     (Eval c.in-Eval.p) c.eval.new.store c.eval.new.roots c.eval.new.frames c.eval.result ready w
     (c.eval.ensures low)
 
@@ -24,8 +24,8 @@ returns-else-frames-eq0 c low ready =
     let st = c.args.store.now in
     let q = c.args.roots.now in
     let fr = c.args.frames.now in
-    let w = subst (WithSpace (told b).rules low st q fr c.args.focus c.with-space.new.store c.with-space.new.roots
-    c.with-space.new.frames) c.in-Back.is (c.in-Some.ensures (told b).rules low ready.running) in
-    went b low st q fr c.args.focus c.with-space.new.store c.with-space.new.roots c.with-space.new.frames
+    let w = subst (WithSpace (told b).rules low st q fr c.args.focus c.with_space.new.store c.with_space.new.roots
+    c.with_space.new.frames) c.in-Back.is (c.in-Some.ensures (told b).rules low ready.running) in
+    went b low st q fr c.args.focus c.with_space.new.store c.with_space.new.roots c.with_space.new.frames
     (Back c.in-Back.v) c.back.new.store c.back.new.roots c.back.new.frames c.back.result ready w
     (c.back.ensures low)

@@ -4,12 +4,12 @@ use Rattle.books.specs.Books.{told}
 use Rattle.engine.proofs.Advancing.{by_flag, by_step}
 use Rattle.engine.proofs.turns.advance.Goals as goal
 
-pub returns-then-is-normal : goal.returns-then-is-normal
-returns-then-is-normal c =
-    by_flag (told c.args.book.now).rules c.args.store.now c.args.p c.requires.0.0.sound c.requires.1 c.requires.0.0.inside
-    (sym c.if-is-normal.ensures)
+pub returns-then-is_normal : goal.returns-then-is_normal
+returns-then-is_normal c =
+    by_flag (told c.args.book.now).rules c.args.store.now c.args.p c.requires.rewritable.0.sound c.requires.honest c.requires.rewritable.0.inside
+    (sym c.if-is_normal.ensures)
 
 pub returns-in-Some-rewrite : goal.returns-in-Some-rewrite
 returns-in-Some-rewrite c =
     by_step (told c.args.book.now).rules c.args.store.now c.args.p c.rewrite.new.store c.in-Some-rewrite.q
-    c.requires.1 c.in-Some-rewrite.ensures
+    c.requires.honest c.in-Some-rewrite.ensures

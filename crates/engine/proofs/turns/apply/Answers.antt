@@ -5,5 +5,5 @@ use Rattle.engine.proofs.turns.apply.Goals as goal
 
 pub returns-in-None : goal.returns-in-None
 returns-in-None c =
-    apply_none (told c.args.book.now).rules c.args.store.now c.args.p c.advance.new.store c.set-normal.new.self
-    c.requires.2 c.requires.0.0.inside c.in-None.ensures c.set-normal.ensures
+    apply_none (told c.args.book.now).rules c.args.store.now c.args.p c.advance.new.store c.set_normal.new.self
+    c.requires.done c.requires.rewritable.0.inside c.in-None.ensures c.set_normal.ensures

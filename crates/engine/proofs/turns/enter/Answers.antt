@@ -9,13 +9,13 @@ use Rattle.engine.proofs.turns.enter.Goals as goal
 
 pub advance-requires : goal.advance-requires
 advance-requires c =
-    let (low, ready) = c.requires.0.0 in (
-      (
+    let (low, ready) = c.requires.can_turn.0 in record {
+      rewritable = (
         eval_rewritable c.args.book.now low c.args.store.now c.args.roots.now c.args.frames.now c.args.p ready,
-        omega (arith, c.requires.0.1.slots),
-      ),
-      ready.running.honest,
-    )
+        omega (arith, c.requires.can_turn.1.slots),
+      );
+      honest = ready.running.honest;
+    }
 
 pub returns-in-Some : goal.returns-in-Some
 returns-in-Some c low ready =

@@ -9,11 +9,7 @@ apply-requires c =
     let b = c.args.book.now in
     let st = c.args.store.now in
     let q = c.args.roots.now in
-    let fr = c.args.frames.now in (
-      (eval_rewritable b low st q fr c.args.p ready, omega (arith, c.requires.1.slots)),
-      ready.running.honest,
-      λ h. letter_normal b low st q fr c.args.p ready c.in-default.field-0 c.in-default.ensures.1,
-    )
+    let fr = c.args.frames.now in record { rewritable = (eval_rewritable b low st q fr c.args.p ready, omega (arith, c.requires.1.slots)); honest = ready.running.honest; done = λ h. letter_normal b low st q fr c.args.p ready c.in_default.field-0 c.in_default.ensures.1 }
 
 pub apply-requires-then-n-eq0 : goal.apply-requires-then-n-eq0
 apply-requires-then-n-eq0 c =
@@ -21,14 +17,10 @@ apply-requires-then-n-eq0 c =
     let b = c.args.book.now in
     let st = c.args.store.now in
     let q = c.args.roots.now in
-    let fr = c.args.frames.now in (
-      (eval_rewritable b low st q fr c.args.p ready, omega (arith, c.requires.1.slots)),
-      ready.running.honest,
-      leaf_normal b low st q fr c.args.p ready c.in-Sign.f c.in-Sign.n c.in-Sign.ensures.2 c.if-n-eq0.true,
-    )
+    let fr = c.args.frames.now in record { rewritable = (eval_rewritable b low st q fr c.args.p ready, omega (arith, c.requires.1.slots)); honest = ready.running.honest; done = leaf_normal b low st q fr c.args.p ready c.in-Sign.f c.in-Sign.n c.in-Sign.ensures.2 c.if-n-eq0.true }
 
-pub returns-in-default : goal.returns-in-default
-returns-in-default c low ready =
+pub returns-in_default : goal.returns-in_default
+returns-in_default c low ready =
     eval_turned c.args.book.now low c.args.store.now c.args.roots.now c.args.frames.now c.args.p ready
     c.apply.new.store c.apply.result c.apply.ensures.holding c.apply.ensures.result
 
