@@ -4,8 +4,8 @@ use Rattle.store.proofs.Placing.{grown_same}
 use Rattle.unification.proofs.Built.{nones_some, one_fewer, built_one, letter_image, waits_for, parts_inside, sign_image, builds_none}
 use Rattle.unification.proofs.building.build_at.Goals as goal
 
-pub share-sign-q-requires : goal.share-sign-q-requires
-share-sign-q-requires c =
+pub share_sign-q-requires : goal.share_sign-q-requires
+share_sign-q-requires c =
     let b = c.requires.0 in
     let m = c.args.images.now in
     let s = c.in-Sign.ensures in
@@ -35,13 +35,13 @@ pub returns-in-Some : goal.returns-in-Some
 returns-in-Some c =
     let b = c.requires.0 in
     let st = c.args.store.now in
-    let su = c.share-sign-q.new.self in
+    let su = c.share_sign-q.new.self in
     let m = c.args.images.now in
     let k = c.put-in-Some.new.self in
     let p = c.args.p in
-    let q = c.share-sign-q.result in
+    let q = c.share_sign-q.result in
     let e = sym c.get.ensures ∙ c.in-None.is in
-    let s = c.share-sign-q.ensures in
+    let s = c.share_sign-q.ensures.shared in
     let v = c.in-Sign.ensures in
     let f = one_fewer st su c.args.n c.args.classes.now m k p q b s.grown (omega arith) e c.put-in-Some.ensures in
     record {

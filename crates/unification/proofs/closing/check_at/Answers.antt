@@ -6,28 +6,28 @@ use Rattle.unification.proofs.closing.check_at.Goals as goal
 
 pub unreachable-requires : goal.unreachable-requires
 unreachable-requires c =
-    known_by_sign c.args.store.now c.args.classes.now c.args.p.0 c.known-by-q.result.0 c.in-Sign.f
-    c.in-default-view.field-0 (parts_in c.args.store.now c.args.p.0 c.in-Sign.n) c.requires.1 (omega arith)
-    c.in-Sign.ensures.2 c.known-by-q.ensures c.in-default-view.ensures.1
+    known_by_sign c.args.store.now c.args.classes.now c.args.p.0 c.known_by-q.result.0 c.in-Sign.f
+    c.in_default-view.field-0 (parts_in c.args.store.now c.args.p.0 c.in-Sign.n) c.requires.labelled (omega arith)
+    c.in-Sign.ensures.2 c.known_by-q.ensures c.in_default-view.ensures.1
 
 pub returns-then-f-g : goal.returns-then-f-g
 returns-then-f-g c r h =
-    let e = same_signs c.args.store.now c.args.classes.now c.requires.0.0 c.requires.1 c.args.p.0 c.known-by-q.result.0
-    (omega arith) c.known-by-q.ensures c.in-Sign.f c.in-Sign.n c.in-Sign-view.g c.in-Sign-view.m
+    let e = same_signs c.args.store.now c.args.classes.now c.requires.sound.0 c.requires.labelled c.args.p.0 c.known_by-q.result.0
+    (omega arith) c.known_by-q.ensures c.in-Sign.f c.in-Sign.n c.in-Sign-view.g c.in-Sign-view.m
     c.in-Sign.ensures.2 c.in-Sign-view.ensures.2 r h in
     ⊎_elim (λ n. n e.0) (λ k. k.1 e.1) c.then-f-g.either
 
 pub returns-in-Some : goal.returns-in-Some
 returns-in-Some c =
-    forced c.args.store.now c.args.classes.now c.requires.0.0 c.requires.1 c.args.p.0 c.known-by-q.result.0
-    (omega arith) c.known-by-q.ensures c.in-Sign.f c.in-Sign.n c.in-Sign-view.g c.in-Sign-view.m
+    forced c.args.store.now c.args.classes.now c.requires.sound.0 c.requires.labelled c.args.p.0 c.known_by-q.result.0
+    (omega arith) c.known_by-q.ensures c.in-Sign.f c.in-Sign.n c.in-Sign-view.g c.in-Sign-view.m
     c.in-Sign.ensures.2 c.in-Sign-view.ensures.2 c.if-f-g.false c.if-n-m.false c.in-Sign.ensures.1
     c.in-Sign-view.ensures.1 c.in-Some.k c.part.result c.part-in-Some.result c.in-Some.ensures.low
     c.part.ensures.is c.part-in-Some.ensures.is c.in-Some.ensures.differ
 
 pub returns-in-None : goal.returns-in-None
 returns-in-None c =
-    closed_by c.args.store.now c.args.classes.now c.requires.0.0 c.requires.1 c.args.p.0 c.known-by-q.result.0
-    (omega arith) c.known-by-q.ensures c.in-Sign.f c.in-Sign.n c.in-Sign-view.g c.in-Sign-view.m
+    closed_by c.args.store.now c.args.classes.now c.requires.sound.0 c.requires.labelled c.args.p.0 c.known_by-q.result.0
+    (omega arith) c.known_by-q.ensures c.in-Sign.f c.in-Sign.n c.in-Sign-view.g c.in-Sign-view.m
     c.in-Sign.ensures.2 c.in-Sign-view.ensures.2 c.if-f-g.false c.if-n-m.false c.in-Sign.ensures.1
     c.in-Sign-view.ensures.1 c.in-None.ensures

@@ -24,8 +24,8 @@ returns-then-not-complete c =
           c.new-images.result c.build.new.images c.in-Some.ensures b c.build.ensures.tells x.0 x.1;
     }
 
-pub bind-letters-requires : goal.bind-letters-requires
-bind-letters-requires c x l =
+pub bind_letters-requires : goal.bind_letters-requires
+bind_letters-requires c x l =
     let r = c.requires.0 in
     let h = r.letters x l in
     let k = c.in-Some.ensures.labelled.low h.0.0 h.2 in
@@ -40,6 +40,6 @@ returns c =
       grown = b.grown;
       few = omega (arith, b.few);
       unified = unifier_is c.args.store.now c.build.new.store c.args.p c.args.q c.in-Some.classes
-          c.new-images.result c.build.new.images c.in-Some.ensures b c.args.letters.now c.bind-letters.result
-          c.requires.0 c.if-not-complete.ensures c.bind-letters.ensures (omega arith) (omega arith);
+          c.new-images.result c.build.new.images c.in-Some.ensures b c.args.letters.now c.bind_letters.result
+          c.requires.0 c.if-not-complete.ensures c.bind_letters.ensures (omega arith) (omega arith);
     }

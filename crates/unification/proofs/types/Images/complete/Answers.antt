@@ -5,4 +5,4 @@ use Rattle.unification.proofs.types.Images.complete.Goals as goal
 
 pub loop-i-preserved : goal.loop-i-preserved
 loop-i-preserved c = below_more (λ k. HasImage c.args.classes.now c.args.self.now k) _ c.loop-i.invariant
-    (c.in-Some.field-0, ap (image c.args.self.now) (sym c.known-by.ensures) ∙ sym c.get.ensures ∙ c.in-Some.is)
+    (c.in-Some.field-0, ap (image c.args.self.now) (sym c.known_by.ensures) ∙ sym c.get.ensures ∙ c.in-Some.is)
