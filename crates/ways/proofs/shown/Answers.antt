@@ -6,11 +6,11 @@ use Rattle.ways.proofs.Following.{went_same, went_then, roomy_on}
 use Rattle.ways.proofs.Remaining.{signature_within, signature_is, not_ways, left_start, next_within, left_more, left_stop, left_end}
 use Rattle.ways.proofs.shown.Goals as goal
 
-pub slice-bounds-parts-end : goal.slice-bounds-parts-end
-slice-bounds-parts-end c = omega (arith, signature_within c.args.book.now c.requires.0.book c.signs.result c.signs.ensures)
+pub slice_bounds-parts-end : goal.slice_bounds-parts-end
+slice_bounds-parts-end c = omega (arith, signature_within c.args.book.now c.requires.0.book c.signs.result c.signs.ensures)
 
-pub returns-then-not-are-ways : goal.returns-then-not-are-ways
-returns-then-not-are-ways c =
+pub returns-then-not-are_ways : goal.returns-then-not-are_ways
+returns-then-not-are_ways c =
     let sound = c.requires.0.book in
     record {
       none = c.requires.1;
@@ -19,7 +19,7 @@ returns-then-not-are-ways c =
         holds = λ z. absurd (clash z);
         fails = λ z. not_ways c.args.book.now c.args.ways.now _ _
             (signature_is c.args.book.now sound c.signs.result c.signs.ensures)
-            (c.rules-rules.ensures ∙ sound.laid.rules) (c.if-not-are-ways.ensures.fails refl);
+            (c.rules-rules.ensures ∙ sound.laid.rules) (c.if-not-are_ways.ensures.fails refl);
       };
     }
 
@@ -31,11 +31,11 @@ loop-i-init c =
       went_same c.args.store.now c.args.roots.now c.requires.0.sound,
       left_start c.args.book.now c.args.ways.now _ _
           (signature_is c.args.book.now sound c.signs.result c.signs.ensures)
-          (c.rules-rules.ensures ∙ sound.laid.rules) (c.if-not-are-ways.ensures.holds refl),
+          (c.rules-rules.ensures ∙ sound.laid.rules) (c.if-not-are_ways.ensures.holds refl),
     )
 
-pub offset-bounds-ways-at : goal.offset-bounds-ways-at
-offset-bounds-ways-at c =
+pub offset_bounds-ways-at : goal.offset_bounds-ways-at
+offset_bounds-ways-at c =
     let within = next_within c.args.book.now c.args.ways.now c.loop-i.i c.loop-i.at c.loop-i.invariant.3
     (omega (arith, c.requires.0.book.laid.rules, c.rules-rules.ensures)) in
     search rules
@@ -46,8 +46,8 @@ bounds-ways-at c =
     (omega (arith, c.requires.0.book.laid.rules, c.rules-rules.ensures)) in
     search rules
 
-pub overflow-add-at : goal.overflow-add-at
-overflow-add-at c =
+pub overflow_add-at : goal.overflow_add-at
+overflow_add-at c =
     let within = next_within c.args.book.now c.args.ways.now c.loop-i.i c.loop-i.at c.loop-i.invariant.3
     (omega (arith, c.requires.0.book.laid.rules, c.rules-rules.ensures)) in
     search rules
@@ -55,14 +55,11 @@ overflow-add-at c =
 pub way-requires : goal.way-requires
 way-requires c =
     let sound = c.requires.0.book in
-    let low : c.loop-i.i < length (told c.args.book.now).rules = omega (arith, sound.laid.rules, c.rules-rules.ensures) in (
-      (c.loop-i.invariant.1, signature_is c.args.book.now sound c.signs.result c.signs.ensures),
-      (low, c.loop-i.invariant.0),
-    )
+    let low : c.loop-i.i < length (told c.args.book.now).rules = omega (arith, sound.laid.rules, c.rules-rules.ensures) in record { roomy = (c.loop-i.invariant.1, signature_is c.args.book.now sound c.signs.result c.signs.ensures); i_in_bounds = (low, c.loop-i.invariant.0) }
 
-pub returns-in-default : goal.returns-in-default
-returns-in-default c =
-    let e = c.in-default.ensures in
+pub returns-in_default : goal.returns-in_default
+returns-in_default c =
+    let e = c.in_default.ensures in
     let low : c.loop-i.i < length (told c.args.book.now).rules =
     omega (arith, c.requires.0.book.laid.rules, c.rules-rules.ensures) in
     record {

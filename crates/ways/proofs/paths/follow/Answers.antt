@@ -18,9 +18,9 @@ loop-init c =
 pub next-requires : goal.next-requires
 next-requires c = (c.loop.invariant.0, c.requires.1)
 
-pub returns-in-default : goal.returns-in-default
-returns-in-default c =
-    let e = c.in-default.ensures in
+pub returns-in_default : goal.returns-in_default
+returns-in_default c =
+    let e = c.in_default.ensures in
     let some : 0 < c.args.count - c.loop.counter = omega arith in
     record {
       ready = e.ready;

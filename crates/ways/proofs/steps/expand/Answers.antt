@@ -12,5 +12,5 @@ returns c =
     let p = c.place-p.result.0 in
     let e : held a q (q.top - 1) ≡ sign c.in-Sign.field-0 (parts_in a p c.in-Sign.n) =
     ap (λ (j : ℕ). term_in a j) (sym c.place-p.ensures) ∙ c.in-Sign.ensures.2 in
-    sign_expanded a q c.truncate.new.self c.truncate.ensures c.requires.0.1.0 c.requires.0.1.1 p c.in-Sign.field-0
-    c.in-Sign.n e c.requires.1 c.push-parts-pushed.new.roots c.push-parts-pushed.result c.push-parts-pushed.ensures
+    sign_expanded a q c.truncate.new.self c.truncate.ensures c.requires.sound.1.0 c.requires.sound.1.1 p c.in-Sign.field-0
+    c.in-Sign.n e c.requires.has_roots c.push_parts-pushed.new.roots c.push_parts-pushed.result c.push_parts-pushed.ensures

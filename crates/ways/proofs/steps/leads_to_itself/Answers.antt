@@ -35,11 +35,11 @@ returns-then-equated c =
     }
 
 pub expand-requires : goal.expand-requires
-expand-requires c = (
-  (c.requires.sound, (c.loop-roots.invariant.inside, omega (arith, c.loop-roots-test.true))),
-  walk_cells c.args.book.now c.args.store.now (c.args.roots.now.top - 1) c.args.roots.now c.loop-roots.roots
-      c.loop-roots.invariant c.loop-roots-test.true c.requires.cells,
-)
+expand-requires c = record {
+  sound = (c.requires.sound, (c.loop-roots.invariant.inside, omega (arith, c.loop-roots-test.true)));
+  has_roots = walk_cells c.args.book.now c.args.store.now (c.args.roots.now.top - 1) c.args.roots.now c.loop-roots.roots
+      c.loop-roots.invariant c.loop-roots-test.true c.requires.cells;
+}
 
 pub loop-roots-smaller : goal.loop-roots-smaller
 loop-roots-smaller c =

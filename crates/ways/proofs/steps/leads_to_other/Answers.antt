@@ -8,10 +8,10 @@ returns-then-equated c =
     found_top c.args.book.now c.args.store.now c.args.p c.args.q c.loop-p.p c.loop-p.q c.loop-p.invariant
     (c.if-equated.ensures.holds refl)
 
-pub returns-in-default : goal.returns-in-default
-returns-in-default c =
+pub returns-in_default : goal.returns-in_default
+returns-in_default c =
     none_found c.args.book.now c.args.store.now c.args.p c.args.q c.loop-p.p c.loop-p.q c.loop-p.invariant
-    (c.if-equated.ensures.fails refl) c.in-default.ensures
+    (c.if-equated.ensures.fails refl) c.in_default.ensures
 
 pub loop-p-preserved : goal.loop-p-preserved
 loop-p-preserved c =

@@ -4,8 +4,8 @@ use Rattle.store.specs.Stores.{term_in, held}
 use Rattle.ways.proofs.Stepping.{walkable, step_same, step_can, step_other}
 use Rattle.ways.proofs.steps.step.Goals as goal
 
-pub leads-to-itself-requires : goal.leads-to-itself-requires
-leads-to-itself-requires c = walkable c.args.book.now c.args.store.now c.args.roots.now c.requires
+pub leads_to_itself-requires : goal.leads_to_itself-requires
+leads_to_itself-requires c = walkable c.args.book.now c.args.store.now c.args.roots.now c.requires
 
 pub returns-then-same : goal.returns-then-same
 returns-then-same c =
@@ -13,11 +13,11 @@ returns-then-same c =
     let q = c.args.roots.now in
     let e : held a q 0 ≡ held a q 1 = ap (λ (j : ℕ). term_in a j) (sym c.place-p.ensures)
     ∙ (c.if-same.ensures.yes refl ∙ ap (λ (j : ℕ). term_in a j) c.place-q.ensures) in
-    step_same c.args.book.now a q c.requires c.leads-to-itself.new.roots c.leads-to-itself.result e
-    c.leads-to-itself.ensures
+    step_same c.args.book.now a q c.requires c.leads_to_itself.new.roots c.leads_to_itself.result e
+    c.leads_to_itself.ensures
 
-pub leads-to-other-found-requires : goal.leads-to-other-found-requires
-leads-to-other-found-requires c = (
+pub leads_to_other-found-requires : goal.leads_to_other-found-requires
+leads_to_other-found-requires c = (
   step_can c.args.book.now c.args.store.now c.args.roots.now c.requires c.place-p.result c.place-q.result
       c.place-p.ensures c.place-q.ensures,
   λ e. c.if-same.ensures.no refl (ap (λ (j : ℕ). term_in c.args.store.now j) e),
@@ -25,5 +25,5 @@ leads-to-other-found-requires c = (
 
 pub returns : goal.returns
 returns c = step_other c.args.book.now c.args.store.now c.args.roots.now c.requires c.place-p.result c.place-q.result
-    c.place-p.ensures c.place-q.ensures c.stack.new.self c.leads-to-other-found.result c.leads-to-other-found.ensures
+    c.place-p.ensures c.place-q.ensures c.stack.new.self c.leads_to_other-found.result c.leads_to_other-found.ensures
     c.stack.ensures

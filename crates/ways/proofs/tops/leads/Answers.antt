@@ -10,26 +10,23 @@ pub matches-requires : goal.matches-requires
 matches-requires c =
     let can = c.requires.0 in
     let pattern = left_pattern c.args.book.now c.args.store.now c.args.p c.args.q can c.args.i c.requires.1 _ _ _
-    c.equation_sides.ensures in (
-      (can.sound, (can.left, (_, _, pattern))),
-      (ap length c.new-bindings.ensures, λ x r k. absurd (unbound _ c.new-bindings.ensures x r k)),
-    )
+    c.equation-sides.ensures in record { sound = (can.sound, (can.left, (_, _, pattern))); at_len = (ap length c.new-bindings.ensures, λ x r k. absurd (unbound _ c.new-bindings.ensures x r k)) }
 
 pub returns-then-not-matches : goal.returns-then-not-matches
 returns-then-not-matches c =
     left_fails c.args.store.now (equation_in c.args.book.now c.args.i) (term_in c.args.store.now c.args.p.0)
     (term_in c.args.store.now c.args.q.0) c.new-bindings.result c.matches.new.bindings c.new-bindings.ensures
     (c.if-not-matches.ensures _ _ (left_pattern c.args.book.now c.args.store.now c.args.p c.args.q c.requires.0
-    c.args.i c.requires.1 _ _ _ c.equation_sides.ensures))
+    c.args.i c.requires.1 _ _ _ c.equation-sides.ensures))
 
 pub matches-requires-2 : goal.matches-requires-2
 matches-requires-2 c =
     let can = c.requires.0 in
     let left = c.if-not-matches.ensures _ _ (left_pattern c.args.book.now c.args.store.now c.args.p c.args.q can
-    c.args.i c.requires.1 _ _ _ c.equation_sides.ensures) in
+    c.args.i c.requires.1 _ _ _ c.equation-sides.ensures) in
     let pattern = right_pattern c.args.book.now c.args.store.now c.args.p c.args.q can c.args.i c.requires.1 _ _ _
-    c.equation_sides.ensures in
-    ((can.sound, (can.right, (_, _, pattern))), (left.full, left.inside))
+    c.equation-sides.ensures in
+    record { sound = (can.sound, (can.right, (_, _, pattern))); at_len = (left.full, left.inside) }
 
 pub returns : goal.returns
 returns c =
@@ -38,6 +35,6 @@ returns c =
     (term_in c.args.store.now c.args.q.0) c.new-bindings.result c.matches.new.bindings c.new-bindings.ensures
     c.matches-2.new.bindings c.matches-2.result
     (c.if-not-matches.ensures _ _ (left_pattern c.args.book.now c.args.store.now c.args.p c.args.q can
-    c.args.i c.requires.1 _ _ _ c.equation_sides.ensures))
+    c.args.i c.requires.1 _ _ _ c.equation-sides.ensures))
     (c.matches-2.ensures _ _ (right_pattern c.args.book.now c.args.store.now c.args.p c.args.q can
-    c.args.i c.requires.1 _ _ _ c.equation_sides.ensures))
+    c.args.i c.requires.1 _ _ _ c.equation-sides.ensures))
