@@ -7,55 +7,55 @@ use Rattle.order.proofs.Deciding.{precedes_same}
 use Rattle.order.proofs.Tables.{truthful_noted}
 use Rattle.order.proofs.terms.Comparison.+all_less_compare_greater_precedes_some_at_least.Goals as goal
 
-pub all-less-returns-then-n-eq0 : goal.all-less-returns-then-n-eq0
-all-less-returns-then-n-eq0 t c = record {
+pub all_less-returns-then-n-eq0 : goal.all_less-returns-then-n-eq0
+all_less-returns-then-n-eq0 t c = record {
   is = exceeds_none c.args.self.now c.args.n c.args.k c.args.j (omega arith);
   kept = c.requires.1.1;
 }
 
-pub all-less-returns-in-default : goal.all-less-returns-in-default
-all-less-returns-in-default t c = record {
-  is = exceeds_no_term c.args.self.now c.args.n c.args.k c.args.j (omega arith) c.in-default.ensures;
+pub all_less-returns-in_default : goal.all_less-returns-in_default
+all_less-returns-in_default t c = record {
+  is = exceeds_no_term c.args.self.now c.args.n c.args.k c.args.j (omega arith) c.in_default.ensures;
   kept = c.requires.1.1;
 }
 
-pub all-less-returns-then-not-greater : goal.all-less-returns-then-not-greater
-all-less-returns-then-not-greater t c = record {
+pub all_less-returns-then-not-greater : goal.all_less-returns-then-not-greater
+all_less-returns-then-not-greater t c = record {
   is = exceeds_not c.args.self.now c.args.n c.args.k c.args.j (omega arith) c.if-not-greater.ensures.is;
   kept = c.if-not-greater.ensures.kept;
 }
 
-pub all-less-returns : goal.all-less-returns
-all-less-returns t c = record {
-  is = exceeds_next c.args.self.now c.args.n c.args.k c.args.j (omega arith) c.in-Some.next c.all-less.result
-      c.in-Some.ensures c.if-not-greater.ensures.is c.all-less.ensures.is;
-  kept = c.all-less.ensures.kept;
+pub all_less-returns : goal.all_less-returns
+all_less-returns t c = record {
+  is = exceeds_next c.args.self.now c.args.n c.args.k c.args.j (omega arith) c.in-Some.next c.all_less.result
+      c.in-Some.ensures c.if-not-greater.ensures.is c.all_less.ensures.is;
+  kept = c.all_less.ensures.kept;
 }
 
-pub compare-returns-in-default : goal.compare-returns-in-default
-compare-returns-in-default t c = record {
-  is = compares_letter c.args.self.now c.args.k c.args.j c.in-default.ensures;
+pub compare-returns-in_default : goal.compare-returns-in_default
+compare-returns-in_default t c = record {
+  is = compares_letter c.args.self.now c.args.k c.args.j c.in_default.ensures;
   kept = c.requires.1.1;
 }
 
-pub compare-returns-then-some-at-least : goal.compare-returns-then-some-at-least
-compare-returns-then-some-at-least t c = record {
+pub compare-returns-then-some_at_least : goal.compare-returns-then-some_at_least
+compare-returns-then-some_at_least t c = record {
   is = compares_part c.args.self.now c.args.k c.args.j c.in-Sign.f c.in-Sign.n c.in-Sign.ensures
-      c.if-some-at-least.ensures.is;
-  kept = c.if-some-at-least.ensures.kept;
+      c.if-some_at_least.ensures.is;
+  kept = c.if-some_at_least.ensures.kept;
 }
 
-pub compare-returns-in-default-head : goal.compare-returns-in-default-head
-compare-returns-in-default-head t c = record {
+pub compare-returns-in_default-head : goal.compare-returns-in_default-head
+compare-returns-in_default-head t c = record {
   is = compares_over_letter c.args.self.now c.args.k c.args.j c.in-Sign.f c.in-Sign.n c.in-Sign.ensures
-      c.if-some-at-least.ensures.is c.in-default-head.ensures;
-  kept = c.if-some-at-least.ensures.kept;
+      c.if-some_at_least.ensures.is c.in_default-head.ensures;
+  kept = c.if-some_at_least.ensures.kept;
 }
 
 pub compare-returns-then-not-precedes : goal.compare-returns-then-not-precedes
 compare-returns-then-not-precedes t c = record {
   is = compares_not_before c.args.self.now c.args.k c.args.j c.in-Sign.f c.in-Sign.n c.in-Sign.ensures
-      c.if-some-at-least.ensures.is c.in-Sign-head.g c.in-Sign-head.m c.in-Sign-head.ensures
+      c.if-some_at_least.ensures.is c.in-Sign-head.g c.in-Sign-head.m c.in-Sign-head.ensures
       c.if-not-precedes.ensures.is;
   kept = c.if-not-precedes.ensures.kept;
 }
@@ -63,9 +63,9 @@ compare-returns-then-not-precedes t c = record {
 pub compare-returns : goal.compare-returns
 compare-returns t c = record {
   is = compares_before c.args.self.now c.args.k c.args.j c.in-Sign.f c.in-Sign.n c.in-Sign.ensures
-      c.if-some-at-least.ensures.is c.in-Sign-head.g c.in-Sign-head.m c.in-Sign-head.ensures
-      c.all-less.result c.if-not-precedes.ensures.is c.all-less.ensures.is;
-  kept = c.all-less.ensures.kept;
+      c.if-some_at_least.ensures.is c.in-Sign-head.g c.in-Sign-head.m c.in-Sign-head.ensures
+      c.all_less.result c.if-not-precedes.ensures.is c.all_less.ensures.is;
+  kept = c.all_less.ensures.kept;
 }
 
 pub greater-returns : goal.greater-returns
@@ -82,33 +82,33 @@ precedes-returns-in-Some t c = record {
   kept = c.greater.ensures.kept;
 }
 
-pub some-at-least-returns-then-n-eq0 : goal.some-at-least-returns-then-n-eq0
-some-at-least-returns-then-n-eq0 t c = record {
+pub some_at_least-returns-then-n-eq0 : goal.some_at_least-returns-then-n-eq0
+some_at_least-returns-then-n-eq0 t c = record {
   is = covers_none c.args.self.now c.args.n c.args.k c.args.j (omega arith);
   kept = c.requires.1.1;
 }
 
-pub some-at-least-returns-in-default : goal.some-at-least-returns-in-default
-some-at-least-returns-in-default t c = record {
-  is = covers_no_term c.args.self.now c.args.n c.args.k c.args.j (omega arith) c.in-default.ensures;
+pub some_at_least-returns-in_default : goal.some_at_least-returns-in_default
+some_at_least-returns-in_default t c = record {
+  is = covers_no_term c.args.self.now c.args.n c.args.k c.args.j (omega arith) c.in_default.ensures;
   kept = c.requires.1.1;
 }
 
-pub some-at-least-returns-then-same : goal.some-at-least-returns-then-same
-some-at-least-returns-then-same t c = record {
+pub some_at_least-returns-then-same : goal.some_at_least-returns-then-same
+some_at_least-returns-then-same t c = record {
   is = covers_same c.args.self.now c.args.n c.args.k c.args.j (omega arith) c.if-same.ensures;
   kept = c.requires.1.1;
 }
 
-pub some-at-least-returns-then-greater : goal.some-at-least-returns-then-greater
-some-at-least-returns-then-greater t c = record {
+pub some_at_least-returns-then-greater : goal.some_at_least-returns-then-greater
+some_at_least-returns-then-greater t c = record {
   is = covers_greater c.args.self.now c.args.n c.args.k c.args.j (omega arith) c.if-greater.ensures.is;
   kept = c.if-greater.ensures.kept;
 }
 
-pub some-at-least-returns : goal.some-at-least-returns
-some-at-least-returns t c = record {
-  is = covers_next c.args.self.now c.args.n c.args.k c.args.j (omega arith) c.in-Some.next c.some-at-least.result
-      c.in-Some.ensures c.if-same.ensures c.if-greater.ensures.is c.some-at-least.ensures.is;
-  kept = c.some-at-least.ensures.kept;
+pub some_at_least-returns : goal.some_at_least-returns
+some_at_least-returns t c = record {
+  is = covers_next c.args.self.now c.args.n c.args.k c.args.j (omega arith) c.in-Some.next c.some_at_least.result
+      c.in-Some.ensures c.if-same.ensures c.if-greater.ensures.is c.some_at_least.ensures.is;
+  kept = c.some_at_least.ensures.kept;
 }

@@ -3,8 +3,8 @@ use Rattle.std.proofs.Common.{◌+◌, ◌-◌, ◌*◌}
 use Rattle.order.specs.Comparing.{room}
 use Rattle.order.proofs.terms.Comparison.+all_less_compare_greater_precedes_some_at_least.Given as goal
 
-abbrev pub decreases-all-less : goal.decreases-all-less
-decreases-all-less l = 3 * ((room l.self.now - l.k) + (room l.self.now - l.j)) + 2
+abbrev pub decreases-all_less : goal.decreases-all_less
+decreases-all_less l = 3 * ((room l.self.now - l.k) + (room l.self.now - l.j)) + 2
 
 abbrev pub decreases-compare : goal.decreases-compare
 decreases-compare l = 3 * ((room l.self.now - l.k) + (room l.self.now - l.j))
@@ -15,5 +15,5 @@ decreases-greater l = 3 * ((room l.self.now - l.k) + (room l.self.now - l.j)) + 
 abbrev pub decreases-precedes : goal.decreases-precedes
 decreases-precedes l = 3 * ((room l.self.now - l.k) + (room l.self.now - l.j)) + 2
 
-abbrev pub decreases-some-at-least : goal.decreases-some-at-least
-decreases-some-at-least l = 3 * ((room l.self.now - l.k) + (room l.self.now - l.j)) + 2
+abbrev pub decreases-some_at_least : goal.decreases-some_at_least
+decreases-some_at_least l = 3 * ((room l.self.now - l.k) + (room l.self.now - l.j)) + 2
