@@ -1,5 +1,5 @@
 -- Lines and columns of a text, counted from 1; columns count characters, and so no byte that continues one.
-use Rattle.std.specs.Prelude.{ℕ, ◌+◌, Bool, cond, ◌||◌, List, fold, ◌==◌, nat_le, nat_lt}
+use Rattle.std.specs.Prelude.{ℕ, ◌+◌, cond, ◌||◌, List, fold, ◌==◌, nat_le, nat_lt}
 use Rattle.lexing.specs.declared.fault.Place.{Place}
 
 -- one byte further: 10 ends a line, and 128 to 191 continue a character

@@ -56,11 +56,11 @@ impl Token<'_> {
 }
 
 fn is_reserved(word: &[u8]) -> bool {
-    word == b"signs"
-        || word == b"rank"
-        || word == b"letters"
-        || word == b"equations"
-        || word == b"rules"
+    word == b"signs".as_slice()
+        || word == b"rank".as_slice()
+        || word == b"letters".as_slice()
+        || word == b"equations".as_slice()
+        || word == b"rules".as_slice()
 }
 
 fn is_name_byte(b: u8) -> bool

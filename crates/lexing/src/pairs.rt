@@ -69,7 +69,7 @@ pub fn read_pair(heap: Global, line: &[u8], pair: &mut Pair) -> Result<Line, Err
     if pair.one.len() == MOST_TERM {
         return Ok(Line::Long);
     }
-    if bar.word != b"|" {
+    if bar.word != b"|".as_slice() {
         return Err(fault_at(
             heap,
             line,

@@ -3,4 +3,4 @@ use Rattle.std.proofs.Common.{◌≤◌, vec_len}
 use Rattle.lexing.proofs.rows.row.Given as goal
 
 abbrev pub invariant-loop-i : goal.invariant-loop-i
-invariant-loop-i l = vec_len l.words ≤ l.-i
+invariant-loop-i l = vec_len l.words ≤ l._i

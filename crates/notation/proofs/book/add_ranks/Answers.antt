@@ -10,7 +10,7 @@ loop-sign-preserved c =
     one_more (λ s. s.rank) (vec_items c.args.words.now) (vec_items c.push.new.self) c.args.signs.now
     c.loop-sign.sign-index x
     c.loop-sign-test.true c.sign-item.is
-    (pushed (x.rank ∷ []) c.loop-sign.invariant c.in-ok-push.was c.push.ensures.items)
+    (pushed (x.rank ∷ []) c.loop-sign.invariant c.in_ok-push.was c.push.ensures.items)
 
 pub returns : goal.returns
 returns c =

@@ -7,9 +7,9 @@ use Rattle.notation.proofs.signature.Signature.sign_named.Goals as goal
 pub returns-then-eq : goal.returns-then-eq
 returns-then-eq c =
     let names = c.args.self.now.signs in
-    converted (SignNamed names c.args.name.now) c.try-from.result c.ok.result c.loop-i.i _
-    c.ok.ensures.value c.try-from.ensures
+    converted (SignNamed names c.args.name.now) c.try_from.result c.ok.result c.loop-i.i _
+    c.ok.ensures.value c.try_from.ensures
     (same_name (λ s. string_bytes s.name) names c.deref-sign-items.result.now c.loop-i.i c.sign-item.result
-    c.as-bytes.result.now
+    c.as_bytes.result.now
     c.args.name.now c.deref-sign-items.ensures.value c.loop-i-test.true c.sign-item.is
-    c.as-bytes.ensures.value c.if-eq.ensures)
+    c.as_bytes.ensures.value c.if-eq.ensures)
