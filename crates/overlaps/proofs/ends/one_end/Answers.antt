@@ -9,24 +9,20 @@ use Rattle.overlaps.proofs.Judging.{joined_more, joined_symbols, joined_rules, a
 use Rattle.overlaps.proofs.Going.{idle_then, ample_still}
 use Rattle.overlaps.proofs.ends.one_end.Goals as goal
 
-pub results-meet-requires : goal.results-meet-requires
-results-meet-requires c =
+pub results_meet-requires : goal.results_meet-requires
+results_meet-requires c =
     let b = c.args.book.now in
     let d = idle_then (idle_then c.pairs.invariant.idle c.loop-j.invariant.idle) c.loop-k.invariant.idle in
     let long : length c.left.result.now ≡ 2 * size (rule_in b c.pairs.i).left =
     ap length c.left.ensures ∙ row_length (rule_in b c.pairs.i).left in
-    let rules = d.working.book.laid.rules in (
-      (d.working, (d.none, (c.requires.1.1.0, ample_still d c.requires.1.1.1))),
-      (omega (arith, c.rules-rules.ensures), omega (arith, c.rules-rules.ensures)),
-      omega arith,
-    )
+    let rules = d.working.book.laid.rules in record { working = (d.working, (d.none, (c.requires.1.1.0, ample_still d c.requires.1.1.1))); i_in_bounds = (omega (arith, c.rules-rules.ensures), omega (arith, c.rules-rules.ensures)); k_bound = omega arith }
 
 pub loop-k-preserved : goal.loop-k-preserved
 loop-k-preserved c =
     let b = c.args.book.now in
     let d = idle_then (idle_then c.pairs.invariant.idle c.loop-j.invariant.idle) c.loop-k.invariant.idle in
     record {
-      idle = idle_then c.loop-k.invariant.idle c.results-meet.ensures.idle;
+      idle = idle_then c.loop-k.invariant.idle c.results_meet.ensures.idle;
       joined = joined_more b c.pairs.i c.loop-j.j c.loop-k.k c.loop-k.invariant.joined
           (c.in-One.ensures.result c.requires.1.1.0 (ample_still d c.requires.1.1.1));
       none = c.loop-k.invariant.none;
@@ -63,12 +59,12 @@ returns-after-pairs c =
           c.pairs.invariant.joined);
     }
 
-pub returns-in-default : goal.returns-in-default
-returns-in-default c =
+pub returns-in_default : goal.returns-in_default
+returns-in_default c =
     let b = c.args.book.now in
     let d = idle_then (idle_then c.pairs.invariant.idle c.loop-j.invariant.idle) c.loop-k.invariant.idle in
     record {
-      idle = idle_then d c.results-meet.ensures.idle;
-      result = λ n a. not_joined b n c.pairs.i c.loop-j.j c.loop-k.k c.results-meet.result c.in-default.not-One
-          (c.results-meet.ensures.result n (ample_still d a));
+      idle = idle_then d c.results_meet.ensures.idle;
+      result = λ n a. not_joined b n c.pairs.i c.loop-j.j c.loop-k.k c.results_meet.result c.in_default.not-One
+          (c.results_meet.ensures.result n (ample_still d a));
     }

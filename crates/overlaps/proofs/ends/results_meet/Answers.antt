@@ -3,41 +3,41 @@ use Rattle.std.proofs.Common.{refl, arith}
 use Rattle.overlaps.proofs.Judging.{never_joined, roots_two, same_says, different_says, room_says, idle_again}
 use Rattle.overlaps.proofs.ends.results_meet.Goals as goal
 
-pub returns-in-default-critical-pair : goal.returns-in-default-critical-pair
-returns-in-default-critical-pair c =
-    let f = c.in-default-critical-pair.ensures in
+pub returns-in_default-critical_pair : goal.returns-in_default-critical_pair
+returns-in_default-critical_pair c =
+    let f = c.in_default-critical_pair.ensures in
     record {
-      idle = record { working = f.working; room = f.room; cells = refl; words = refl; none = c.requires.0.1.0 };
+      idle = record { working = f.working; room = f.room; cells = refl; words = refl; none = c.requires.working.1.0 };
       result = λ n a. never_joined c.in-Some.ensures f;
     }
 
 pub compare-requires : goal.compare-requires
 compare-requires c = (
-  c.in-Some-critical-pair.ensures.working,
-  roots_two c.in-Some.ensures c.in-Some-critical-pair.ensures c.stack.ensures c.stack-2.ensures
-      (omega (arith, c.requires.0.1.1.1.cells)),
+  c.in-Some-critical_pair.ensures.working,
+  roots_two c.in-Some.ensures c.in-Some-critical_pair.ensures c.stack.ensures c.stack-2.ensures
+      (omega (arith, c.requires.working.1.1.1.cells)),
 )
 
 pub returns-in-Same : goal.returns-in-Same
 returns-in-Same c = record {
-  idle = idle_again c.in-Some.ensures c.in-Some-critical-pair.ensures c.stack.ensures c.stack-2.ensures
-      (omega (arith, c.requires.0.1.1.1.cells)) c.compare.ensures.idle;
-  result = λ n. same_says c.in-Some.ensures c.in-Some-critical-pair.ensures c.stack.ensures c.stack-2.ensures
-      (omega (arith, c.requires.0.1.1.1.cells)) n (c.in-Same.ensures.result n);
+  idle = idle_again c.in-Some.ensures c.in-Some-critical_pair.ensures c.stack.ensures c.stack-2.ensures
+      (omega (arith, c.requires.working.1.1.1.cells)) c.compare.ensures.idle;
+  result = λ n. same_says c.in-Some.ensures c.in-Some-critical_pair.ensures c.stack.ensures c.stack-2.ensures
+      (omega (arith, c.requires.working.1.1.1.cells)) n (c.in-Same.ensures.result n);
 }
 
 pub returns-in-Different : goal.returns-in-Different
 returns-in-Different c = record {
-  idle = idle_again c.in-Some.ensures c.in-Some-critical-pair.ensures c.stack.ensures c.stack-2.ensures
-      (omega (arith, c.requires.0.1.1.1.cells)) c.compare.ensures.idle;
-  result = λ n. different_says c.in-Some.ensures c.in-Some-critical-pair.ensures c.stack.ensures c.stack-2.ensures
-      (omega (arith, c.requires.0.1.1.1.cells)) n (c.in-Different.ensures.result n);
+  idle = idle_again c.in-Some.ensures c.in-Some-critical_pair.ensures c.stack.ensures c.stack-2.ensures
+      (omega (arith, c.requires.working.1.1.1.cells)) c.compare.ensures.idle;
+  result = λ n. different_says c.in-Some.ensures c.in-Some-critical_pair.ensures c.stack.ensures c.stack-2.ensures
+      (omega (arith, c.requires.working.1.1.1.cells)) n (c.in-Different.ensures.result n);
 }
 
 pub returns-in-Room : goal.returns-in-Room
 returns-in-Room c = record {
-  idle = idle_again c.in-Some.ensures c.in-Some-critical-pair.ensures c.stack.ensures c.stack-2.ensures
-      (omega (arith, c.requires.0.1.1.1.cells)) c.compare.ensures.idle;
-  result = λ n. room_says c.in-Some.ensures c.in-Some-critical-pair.ensures c.stack.ensures c.stack-2.ensures
-      (omega (arith, c.requires.0.1.1.1.cells)) n (c.in-Room.ensures.result n);
+  idle = idle_again c.in-Some.ensures c.in-Some-critical_pair.ensures c.stack.ensures c.stack-2.ensures
+      (omega (arith, c.requires.working.1.1.1.cells)) c.compare.ensures.idle;
+  result = λ n. room_says c.in-Some.ensures c.in-Some-critical_pair.ensures c.stack.ensures c.stack-2.ensures
+      (omega (arith, c.requires.working.1.1.1.cells)) n (c.in-Room.ensures.result n);
 }

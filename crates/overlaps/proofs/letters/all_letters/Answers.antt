@@ -7,13 +7,13 @@ use Rattle.overlaps.proofs.letters.all_letters.Goals as goal
 pub loop-x-init : goal.loop-x-init
 loop-x-init c = no_letters c.args.store.now c.new-letters.result c.requires.0 c.requires.1.0 c.new-letters.ensures
 
-pub share-letter-requires : goal.share-letter-requires
-share-letter-requires c =
+pub share_letter-requires : goal.share_letter-requires
+share_letter-requires c =
     let m = c.loop-x.invariant in (m.sound, omega (arith, m.few, m.grown.limit, c.requires.1.1))
 
 pub loop-x-preserved : goal.loop-x-preserved
-loop-x-preserved c = one_letter c.args.store.now c.loop-x.x c.loop-x.store c.loop-x.letters c.share-letter.new.self
-    c.share-letter.result _ (omega arith) refl c.loop-x.invariant c.share-letter.ensures
+loop-x-preserved c = one_letter c.args.store.now c.loop-x.x c.loop-x.store c.loop-x.letters c.share_letter.new.self
+    c.share_letter.result _ (omega arith) refl c.loop-x.invariant c.share_letter.ensures
 
 pub returns : goal.returns
 returns c =

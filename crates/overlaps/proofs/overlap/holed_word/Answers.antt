@@ -13,6 +13,6 @@ returns-in-0 c = sym (word_after c.args.row.now c.args.from c.args.to c.requires
 pub returns-in-1 : goal.returns-in-1
 returns-in-1 c = sym (word_after c.args.row.now c.args.from c.args.to c.requires.0 c.requires.1.0 c.args.i 1 (omega arith))
 
-pub returns-in-default : goal.returns-in-default
-returns-in-default c =
+pub returns-in_default : goal.returns-in_default
+returns-in_default c =
     sym (word_behind c.args.row.now c.args.from c.args.to c.requires.0 c.requires.1.0 c.args.i _ (omega arith))

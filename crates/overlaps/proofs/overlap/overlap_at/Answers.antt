@@ -4,33 +4,33 @@ use Rattle.books.proofs.Bookish.{rule_sides}
 use Rattle.overlaps.proofs.Overlapping.{left_length, other_some, other_sign, no_end, overlap_is}
 use Rattle.overlaps.proofs.overlap.overlap_at.Goals as goal
 
-pub overflow-mul-from : goal.overflow-mul-from
-overflow-mul-from c = omega (arith, (rule_sides c.args.book.now c.requires.0.0 c.args.i c.requires.1.0).left_size)
+pub overflow_mul-from : goal.overflow_mul-from
+overflow_mul-from c = omega (arith, (rule_sides c.args.book.now c.requires.sound_book.0 c.args.i c.requires.i_in_bounds.0).left_size)
 
-pub same-sign-requires : goal.same-sign-requires
-same-sign-requires c =
+pub same_sign-requires : goal.same_sign-requires
+same_sign-requires c =
     let b = c.args.book.now in (
       omega (
         arith,
-        left_length b c.requires.0.0 c.requires.0.1 c.args.i c.args.j c.args.k c.requires.1.0 c.requires.1.1 _ _
+        left_length b c.requires.sound_book.0 c.requires.sound_book.1 c.args.i c.args.j c.args.k c.requires.i_in_bounds.0 c.requires.i_in_bounds.1 _ _
             c.left-left.ensures c.left.ensures,
       ),
-      other_some b c.requires.0.0 c.requires.0.1 c.args.i c.args.j c.args.k c.requires.1.0 c.requires.1.1 _ _
+      other_some b c.requires.sound_book.0 c.requires.sound_book.1 c.args.i c.args.j c.args.k c.requires.i_in_bounds.0 c.requires.i_in_bounds.1 _ _
           c.left-left.ensures c.left.ensures,
     )
 
-pub returns-then-not-same-sign : goal.returns-then-not-same-sign
-returns-then-not-same-sign c =
-    other_sign c.args.book.now c.requires.0.0 c.requires.0.1 c.args.i c.args.j c.args.k c.requires.1.0 c.requires.1.1 _ _
-    c.left-left.ensures c.left.ensures (c.if-not-same-sign.ensures.fails refl)
+pub returns-then-not-same_sign : goal.returns-then-not-same_sign
+returns-then-not-same_sign c =
+    other_sign c.args.book.now c.requires.sound_book.0 c.requires.sound_book.1 c.args.i c.args.j c.args.k c.requires.i_in_bounds.0 c.requires.i_in_bounds.1 _ _
+    c.left-left.ensures c.left.ensures (c.if-not-same_sign.ensures.fails refl)
 
 pub returns-in-Some : goal.returns-in-Some
 returns-in-Some c =
-    overlap_is c.args.book.now c.requires.0.0 c.requires.0.1 c.args.i c.args.j c.args.k c.requires.1.0 c.requires.1.1 _ _
-    c.left-left.ensures c.left.ensures _ c.parts.ensures c.in-Some.to c.requires.2
-    (c.same-sign.ensures.holds c.if-not-same-sign.false) c.in-Some.ensures
+    overlap_is c.args.book.now c.requires.sound_book.0 c.requires.sound_book.1 c.args.i c.args.j c.args.k c.requires.i_in_bounds.0 c.requires.i_in_bounds.1 _ _
+    c.left-left.ensures c.left.ensures _ c.parts.ensures c.in-Some.to c.requires.k_bound
+    (c.same_sign.ensures.holds c.if-not-same_sign.false) c.in-Some.ensures
 
 pub returns-in-None : goal.returns-in-None
 returns-in-None c =
-    no_end c.args.book.now c.requires.0.0 c.requires.0.1 c.args.i c.args.j c.args.k c.requires.1.0 c.requires.1.1 _ _
+    no_end c.args.book.now c.requires.sound_book.0 c.requires.sound_book.1 c.args.i c.args.j c.args.k c.requires.i_in_bounds.0 c.requires.i_in_bounds.1 _ _
     c.left-left.ensures c.left.ensures _ c.parts.ensures c.in-None.ensures

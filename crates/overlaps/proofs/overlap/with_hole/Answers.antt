@@ -7,8 +7,8 @@ pub loop-i-init : goal.loop-i-init
 loop-i-init c = none_holed c.args.row.now c.args.from c.args.to
 
 pub loop-i-preserved : goal.loop-i-preserved
-loop-i-preserved c = one_holed c.args.row.now c.args.from c.args.to c.loop-i.i c.loop-i.words c.holed-word.result
-    (omega arith) c.holed-word.ensures c.loop-i.invariant
+loop-i-preserved c = one_holed c.args.row.now c.args.from c.args.to c.loop-i.i c.loop-i.words c.holed_word.result
+    (omega arith) c.holed_word.ensures c.loop-i.invariant
 
 pub returns : goal.returns
 returns c = all_holed c.args.row.now c.args.from c.args.to c.loop-i.i _ c.loop-i.words

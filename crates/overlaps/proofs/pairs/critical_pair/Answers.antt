@@ -7,7 +7,7 @@ results-requires c =
     let f = c.in-Some.ensures in
     let s = c.requires.1.0 in
     let u = f.unified s.part s.place s.at in
-    ((c.requires.0.book, (s, record { all = u.all; inside = u.inside })), (f.sound, f.space))
+    record { sound_book = (c.requires.0.book, (s, record { all = u.all; inside = u.inside })); sound = (f.sound, f.space) }
 
 pub returns-in-Some : goal.returns-in-Some
 returns-in-Some c = pair_found c.args.book.now c.args.overlap c.args.store.now c.unifier.new.store

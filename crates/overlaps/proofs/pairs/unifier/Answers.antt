@@ -5,8 +5,8 @@ use Rattle.overlaps.proofs.Overlapping.{side_short}
 use Rattle.overlaps.proofs.Pairing.{part_fills, other_fills, unifies, found}
 use Rattle.overlaps.proofs.pairs.unifier.Goals as goal
 
-pub offset-bounds-left-from : goal.offset-bounds-left-from
-offset-bounds-left-from c =
+pub offset_bounds-left-from : goal.offset_bounds-left-from
+offset_bounds-left-from c =
     let s = c.requires.1.0 in
     omega (
       arith,
@@ -15,26 +15,30 @@ offset-bounds-left-from c =
       side_short c.args.book.now c.requires.0 _ s.outer _ c.left-left.ensures,
     )
 
-pub slice-bounds-instance-end : goal.slice-bounds-instance-end
-slice-bounds-instance-end c = let s = c.requires.1.0 in omega (arith, at_within s.place _ c.left-left.ensures _ _ s.at)
+pub slice_bounds-instance-end : goal.slice_bounds-instance-end
+slice_bounds-instance-end c = let s = c.requires.1.0 in omega (arith, at_within s.place _ c.left-left.ensures _ _ s.at)
 
 pub instance-part-requires : goal.instance-part-requires
-instance-part-requires c = part_fills c.requires.0 c.requires.1.0 c.clear.ensures c.requires.1.1.1
-    c.all-letters-letters.ensures c.parts.ensures c.left-left.ensures
+instance-part-requires c =
+    let h = part_fills c.requires.0 c.requires.1.0 c.clear.ensures c.requires.1.1.1
+    c.all_letters-letters.ensures c.parts.ensures c.left-left.ensures in
+    record { few_parts = h.0; sound = h.1 }
 
 pub instance-other-requires : goal.instance-other-requires
-instance-other-requires c = other_fills c.requires.0 c.requires.1.0 c.clear.ensures c.requires.1.1.1
-    c.all-letters-letters.ensures c.parts.ensures c.left-left.ensures c.instance-part.ensures
-    c.shifted-renamed.ensures c.parts-2.ensures c.left.ensures
+instance-other-requires c =
+    let h = other_fills c.requires.0 c.requires.1.0 c.clear.ensures c.requires.1.1.1
+    c.all_letters-letters.ensures c.parts.ensures c.left-left.ensures c.instance-part.ensures
+    c.shifted-renamed.ensures c.parts-2.ensures c.left.ensures in
+    record { few_parts = h.0; sound = h.1 }
 
 pub unify-requires : goal.unify-requires
-unify-requires c = unifies c.requires.0 c.requires.1.0 c.clear.ensures c.requires.1.1.1 c.all-letters-letters.ensures
+unify-requires c = unifies c.requires.0 c.requires.1.0 c.clear.ensures c.requires.1.1.1 c.all_letters-letters.ensures
     c.parts.ensures c.left-left.ensures c.instance-part.ensures c.shifted-renamed.ensures c.parts-2.ensures
     c.left.ensures
     c.instance-other.ensures
 
 pub returns : goal.returns
-returns c = found c.requires.0 c.requires.1.0 c.clear.ensures c.requires.1.1.1 c.all-letters-letters.ensures c.parts.ensures
+returns c = found c.requires.0 c.requires.1.0 c.clear.ensures c.requires.1.1.1 c.all_letters-letters.ensures c.parts.ensures
     c.left-left.ensures c.instance-part.ensures c.shifted-renamed.ensures c.parts-2.ensures c.left.ensures
     c.instance-other.ensures c.unify.ensures.sound c.unify.ensures.grown c.unify.ensures.few
     c.unify.ensures.unified
