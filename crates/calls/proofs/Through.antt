@@ -8,7 +8,7 @@ use Rattle.rewriting.proofs.Different.{different_size}
 use Rattle.rewriting.specs.Order.{rank, AllDown}
 use Rattle.rewriting.proofs.Signature.{over_fits}
 use Rattle.rewriting.specs.Books.{Book as Told}
-use Rattle.books.specs.Rows.{row, Of}
+use Rattle.books.specs.Rows.{Of}
 use Rattle.books.specs.Layouts.{FewParts}
 use Rattle.books.specs.Books.{told, SoundBook}
 use Rattle.books.specs.declared.row.Book.{Book}
@@ -21,8 +21,7 @@ use Rattle.store.specs.declared.types.Full.{Full}
 use Rattle.store.specs.declared.types.Full.TheVariants.{NoSlot, NoRoot}
 use Rattle.store.specs.declared.types.Short.{Short}
 use Rattle.store.specs.declared.types.Short.TheVariants.{NoWord, NoCell}
-use Rattle.store.specs.Stores.{Sound, Inside, held, term_in}
-use Rattle.store.specs.Stacks.{root_in}
+use Rattle.store.specs.Stores.{Inside, held}
 use Rattle.store.specs.Transfers.{RowOf, Read, WrittenOrShort}
 use Rattle.order.specs.Downward.{GoesDown}
 use Rattle.order.proofs.Rules.{parts_are}

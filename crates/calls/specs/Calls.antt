@@ -1,5 +1,5 @@
 -- What a call answers: the row of a normal form, or why there is none.
-use Rattle.std.specs.Prelude.{◌≡◌, ℕ, ◌*◌, ◌<◌, List, length, take}
+use Rattle.std.specs.Prelude.{◌≡◌, ℕ, ◌*◌, ◌<◌, List, take}
 use Rattle.rewriting.specs.Terms.{Term, size}
 use Rattle.rewriting.specs.Rules.{Steps, Done}
 use Rattle.rewriting.specs.Order.{rank, AllDown}

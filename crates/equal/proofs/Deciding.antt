@@ -1,7 +1,7 @@
 -- That a book settles its equations, with the ways handed in, is given back by two negations.
-use Rattle.std.proofs.Common.{◌≡◌, ℕ, ◌⊎◌, List, length, sym, ap, ◌∙◌, subst, subst₂, inl, inr}
+use Rattle.std.proofs.Common.{◌≡◌, ℕ, ◌⊎◌, List, length, sym, ap, ◌∙◌, subst, inl, inr}
 use Rattle.rewriting.specs.Terms.{Term, SmallLetter, Fits}
-use Rattle.rewriting.specs.Rules.{Eq, Steps, Meet}
+use Rattle.rewriting.specs.Rules.{Steps, Meet}
 use Rattle.rewriting.specs.Order.{rank, AllDown}
 use Rattle.rewriting.specs.Books.{Book, Fine, OneEnd, NoLess}
 use Rattle.rewriting.specs.Ways.{Ways}
@@ -18,7 +18,7 @@ use Rattle.books.proofs.Unique.{the_book}
 use Rattle.equal.specs.declared.types.Judged.TheVariants.{Settles}
 use Rattle.equal.specs.Promises.{JudgedSays}
 use Rattle.equal.proofs.Stable.{Stable, by_dec, twice, dec_words, stable_reads, ways_of, ways_read, ways_fit}
-use Rattle.equal.proofs.Excluding.{SettlesBy, settles_by}
+use Rattle.equal.proofs.Excluding.{settles_by}
 
 stable_down : (b : Book) → Stable (AllDown (rank b.ranks) b.rules)
 stable_down b h i r e = by_dec (dec_greater (rank b.ranks) r.left r.right) (twice (λ d. d i r e) h)

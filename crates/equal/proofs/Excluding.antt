@@ -1,9 +1,8 @@
 -- A book that settles has no other answer.
 use Rattle.std.proofs.Common.{◌≡◌, ℕ, List, refl, subst}
-use mathlib.Core.Option.{some}
-use Rattle.rewriting.specs.Terms.{nth, Term}
+use Rattle.rewriting.specs.Terms.{Term}
 use Rattle.rewriting.specs.Order.{rank, AllDown}
-use Rattle.rewriting.specs.Books.{Book, Fine, OneEnd, NoLess, NoMore}
+use Rattle.rewriting.specs.Books.{Book, OneEnd, NoLess}
 use Rattle.rewriting.specs.Theorems.{IsSettled}
 use Rattle.rewriting.specs.Ways.{Ways}
 use Rattle.rewriting.proofs.Settling.{settled}

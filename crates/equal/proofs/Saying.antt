@@ -1,7 +1,5 @@
 -- From what was found of a book to what is said of its words.
-use Rattle.std.proofs.Common.{◌≡◌, ℕ, ◌+◌, ◌*◌, ◌<◌, ◌≤◌, List, [], ◌∷◌, length, Some, sym, refl, ◌∙◌, subst, arith}
-use mathlib.Core.Option.{some}
-use Rattle.rewriting.specs.Terms.{nth}
+use Rattle.std.proofs.Common.{◌≡◌, ℕ, List, length, Some, sym, subst, arith}
 use Rattle.rewriting.specs.Rules.{Eq, Meet}
 use Rattle.rewriting.specs.Order.{rank, Greater, AllDown}
 use Rattle.rewriting.specs.Books.{Book as Told}
@@ -9,7 +7,7 @@ use Rattle.books.specs.declared.row.Book.{Book}
 use Rattle.books.specs.Books.{told, SoundBook, blank, rule_in, equation_in}
 use Rattle.books.specs.Rows.{Reads}
 use Rattle.books.specs.Reading.{book_of}
-use Rattle.books.proofs.Elements.{nth_below, nth_is}
+use Rattle.books.proofs.Elements.{nth_is}
 use Rattle.books.proofs.Bookish.{is_rule, is_equation}
 use Rattle.books.proofs.Unique.{the_book}
 use Rattle.order.specs.Downward.{FirstUp}

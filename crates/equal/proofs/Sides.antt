@@ -1,8 +1,7 @@
 -- The sides of equations as rows, and a loop over the equations that looks whether they meet.
-use Rattle.std.proofs.Common.{◌≡◌, ℕ, ◌+◌, ◌-◌, ◌*◌, ◌<◌, ◌≤◌, true, List, [], ◌∷◌, length, take, drop, is_some as option_is_some, Some, None, Option as Maybe, sym, refl, ap, ◌∙◌, subst, arith}
-use mathlib.Core.Option.{some}
+use Rattle.std.proofs.Common.{◌≡◌, ℕ, ◌+◌, ◌-◌, ◌<◌, ◌≤◌, true, length, take, drop, is_some as option_is_some, Some, None, Option as Maybe, sym, refl, ◌∙◌, subst, arith}
 use native.Mathlib.Decide.{ℕ_discrete}
-use Rattle.rewriting.specs.Terms.{nth, Term, SmallLetter, Fits}
+use Rattle.rewriting.specs.Terms.{SmallLetter, Fits}
 use Rattle.rewriting.specs.Rules.{Eq, Meet}
 use Rattle.rewriting.specs.Books.{OneEnd, NoLess}
 use Rattle.rewriting.proofs.Signature.{over_fits}
@@ -15,11 +14,11 @@ use Rattle.books.proofs.Elements.{nth_below, nth_is}
 use Rattle.books.proofs.Bookish.{equation_sides, side_cut}
 use Rattle.engine.specs.declared.types.Frames.{Frames}
 use Rattle.engine.specs.declared.types.Compared.{Compared}
-use Rattle.engine.specs.declared.types.Compared.TheVariants.{Same, Different, Room}
+use Rattle.engine.specs.declared.types.Compared.TheVariants.{Same, Different}
 use Rattle.engine.specs.Meeting.{Ample, Working, LeftIdle, Compares}
 use Rattle.engine.specs.Pairs.{RowsOf, RowsCompared}
 use Rattle.equal.specs.Judging.{AmpleFor, KeptBefore, EquationsSay}
-use Rattle.equal.specs.declared.types.Equations.TheVariants.{Kept, Lost}
+use Rattle.equal.specs.declared.types.Equations.TheVariants.{Lost}
 
 module _ (b : Book) (sound : SoundBook b) (i : ℕ) (low : i < length (told b).eqs) where
   pub left_fits : Fits (told b).parts (equation_in b i).left

@@ -1,18 +1,16 @@
 -- Facts on books and their rows that two negations give back, since each can be decided or says something decidable of all numbers.
-use Rattle.std.proofs.Common.{◌≡◌, ℕ, zero, suc, ◌<◌, ◌≤◌, List, [], ◌∷◌, ◌++◌, length, sym, refl, ap, ◌∙◌, subst, ap₂, arith}
-use mathlib.Core.Option.{Option, some, none}
+use Rattle.std.proofs.Common.{◌≡◌, ℕ, zero, suc, List, [], ◌∷◌, ◌++◌, length, sym, refl, ap, ◌∙◌, ap₂, arith}
+use mathlib.Core.Option.{some, none}
 use native.Mathlib.Decide.{ℕ_discrete, dec_le, dec_lt}
 use Rattle.rewriting.specs.Terms.{Term, SmallLetter, Ok}
 use Rattle.rewriting.specs.Rules.{Eq}
 use Rattle.rewriting.specs.Books.{Book, Sides, Fine}
 use Rattle.rewriting.specs.Ways.{Way, Ways}
-use Rattle.rewriting.proofs.Choosing.{dec_map}
 use Rattle.rewriting.proofs.Signature.{dec_over}
 use Rattle.books.specs.declared.layout.Layout.{Layout}
 use Rattle.books.specs.declared.row.Book.{Book as Worded}
 use Rattle.books.specs.declared.words.Letters.TheVariants.{Any}
 use Rattle.books.specs.Books.{told, SoundBook}
-use Rattle.books.specs.Indexing.{IndexedFrom}
 use Rattle.books.specs.Layouts.{Laid, listed}
 use Rattle.books.specs.Reading.{Found, read, TermAt}
 use Rattle.books.specs.Rows.{Reads, rowB, rowTerms, rowWays, AllFit, WaysFit}
@@ -79,23 +77,12 @@ stable_at ws a z t h = record {
   within = by_dec (dec_le z (length ws)) (twice (λ r. r.within) h);
 }
 
-stable_index : (t : ℕ → ℕ) (n m : ℕ) (firsts nexts : List ℕ) → Stable (IndexedFrom t n m firsts nexts)
-stable_index t n m firsts nexts h = record {
-  first_above = λ f l. by_dec (dec_le _ _) (twice (λ x. x.first_above f l) h);
-  first_low = λ f j l a b e. by_dec (dec_le _ _) (twice (λ x. x.first_low f j l a b e) h);
-  first_is = λ f l a. by_dec (ℕ_discrete _ _) (twice (λ x. x.first_is f l a) h);
-  next_above = λ i a b l. by_dec (dec_lt _ _) (twice (λ x. x.next_above i a b l) h);
-  next_low = λ i j a b d l e. by_dec (dec_le _ _) (twice (λ x. x.next_low i j a b d l e) h);
-  next_is = λ i a b l d. by_dec (ℕ_discrete _ _) (twice (λ x. x.next_is i a b l d) h);
-}
-
 stable_laid : (s : List ℕ) (b : Book) (l : Layout) → Stable (Laid s b l)
 stable_laid s b l h = record {
   signs = by_dec (ℕ_discrete _ _) (twice (λ r. r.signs) h);
   equations = by_dec (ℕ_discrete _ _) (twice (λ r. r.equations) h);
   rules = by_dec (ℕ_discrete _ _) (twice (λ r. r.rules) h);
   at = λ i t e. stable_at s _ _ t (twice (λ r. r.at i t e) h);
-  indexed = stable_index _ _ 0 _ _ (twice (λ r. r.indexed) h);
 }
 
 pub stable_book : (k : Worded) → Stable (SoundBook k)

@@ -1,11 +1,10 @@
 -- What is found of two rows says whether their terms are equal by the equations.
-use Rattle.std.proofs.Common.{◌≡◌, ℕ, ◌<◌, ◌≤◌, ◌⊎◌, List, [], ◌∷◌, length, Some, None, Option as Maybe, sym, ap, ◌∙◌, subst, inl, inr, arith}
+use Rattle.std.proofs.Common.{◌≡◌, ℕ, ◌≤◌, List, length, Some, None, Option as Maybe, sym, ap, ◌∙◌, subst, inl, inr, arith}
 use Rattle.rewriting.specs.Terms.{Term, size, SmallLetter, Fits}
 use Rattle.rewriting.specs.Rules.{Steps, Done, Meet}
 use Rattle.rewriting.specs.Order.{rank, AllDown}
 use Rattle.rewriting.specs.Books.{Book as Told, Fine}
 use Rattle.rewriting.specs.Theorems.{IsSettled}
-use Rattle.rewriting.specs.Different.{different}
 use Rattle.rewriting.proofs.Stepping.{trans}
 use Rattle.rewriting.proofs.Terminating.{steps_keep}
 use Rattle.rewriting.proofs.Signature.{over_fits}
@@ -19,7 +18,7 @@ use Rattle.engine.specs.declared.types.Frames.{Frames}
 use Rattle.engine.specs.declared.types.Compared.{Compared}
 use Rattle.engine.specs.declared.types.Compared.TheVariants as compared
 use Rattle.engine.specs.Meeting.{Ample, Working, Compares}
-use Rattle.engine.specs.Pairs.{RowsOf, RowsCompared}
+use Rattle.engine.specs.Pairs.{RowsCompared}
 use Rattle.equal.specs.declared.types.Told.{Told as Answer}
 use Rattle.equal.specs.declared.types.Told.TheVariants.{Same, Different, NoTerm, Full}
 use Rattle.equal.specs.Judging.{answer_of, RowsSay}

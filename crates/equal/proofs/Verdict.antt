@@ -1,8 +1,6 @@
 -- What the checks of a book whose rules go down come to.
-use Rattle.std.proofs.Common.{◌≡◌, ℕ, ◌<◌, Bool, true, false, ◌⊎◌, List, [], ◌∷◌, length, refl, ◌∙◌, inl, inr}
-use Rattle.rewriting.specs.Terms.{Term}
+use Rattle.std.proofs.Common.{◌≡◌, ℕ, ◌<◌, Bool, true, false, ◌⊎◌, List, length, refl, ◌∙◌, inl, inr}
 use Rattle.rewriting.specs.Rules.{Steps}
-use Rattle.rewriting.specs.Different.{different}
 use Rattle.rewriting.specs.Answers.{Tells}
 use Rattle.rewriting.specs.Books.{OneEnd, NoLess}
 use Rattle.store.specs.declared.types.Store.{Store}

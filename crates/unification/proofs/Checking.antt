@@ -1,5 +1,5 @@
 -- The sign at a place against the one that its class is known by.
-use Rattle.std.proofs.Common.{◌≡◌, ℕ, ◌+◌, ◌<◌, ◌≤◌, sym, refl, ap, ◌∙◌, subst, arith}
+use Rattle.std.proofs.Common.{◌≡◌, ℕ, ◌<◌, ◌≤◌, sym, refl, ap, ◌∙◌, subst, arith}
 use Rattle.rewriting.specs.Terms.{Term, letter, sign, Terms, put, puts, count}
 use Rattle.rewriting.proofs.Replacing.{count_puts}
 use Rattle.store.specs.declared.types.Store.{Store}

@@ -1,5 +1,5 @@
 -- Rows of parts, one by one: what a relation says of each two, what a replacement makes of them, and that they are smaller.
-use Rattle.std.proofs.Common.{◌≡◌, ℕ, zero, suc, ◌+◌, ◌<◌, ◌≤◌, ◌⊎◌, refl, subst, ap₂, ⊎_elim, eq-or-lt_of_le, arith}
+use Rattle.std.proofs.Common.{◌≡◌, ℕ, zero, suc, ◌+◌, ◌<◌, ◌≤◌, refl, subst, ap₂, ⊎_elim, eq-or-lt_of_le, arith}
 use Rattle.rewriting.specs.Terms.{Term, Terms, none1, and1, put, puts, size, sizes}
 use Rattle.store.specs.Slots.{parts_by}
 use Rattle.unification.specs.Classes.{Each}

@@ -1,5 +1,5 @@
 -- Classes of places. Each place has a label, the place by which its class is known; a class with signs is known by one of them.
-use Rattle.std.specs.Prelude.{◌≡◌, ℕ, zero, suc, ◌+◌, ◌<◌, ◌≤◌, Bool, true, false, cond, Some, None, Option as Maybe, ◌==◌, ◌≢◌, slice_index}
+use Rattle.std.specs.Prelude.{◌≡◌, ℕ, zero, suc, ◌+◌, ◌<◌, Bool, true, false, cond, Some, None, Option as Maybe, ◌==◌, ◌≢◌, slice_index}
 use Rattle.rewriting.specs.Terms.{Term, letter, sign, Terms, none1, and1, put}
 use Rattle.store.specs.declared.types.Store.{Store}
 use Rattle.store.specs.declared.types.Place.{Place}

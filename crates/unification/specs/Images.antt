@@ -1,6 +1,6 @@
 -- Images: for each class the place of the term that the least replacement makes of it, once it is built.
 use Rattle.std.specs.Prelude.{◌≡◌, ℕ, ◌+◌, ◌<◌, ◌≤◌, Bool, true, false, List, [], ◌∷◌, length, Some, None, Option as Maybe, slice_index_or}
-use Rattle.rewriting.specs.Terms.{Term, letter, sign, Terms, put, size}
+use Rattle.rewriting.specs.Terms.{Term, sign, Terms, put, size}
 use Rattle.store.specs.declared.types.Store.{Store}
 use Rattle.store.specs.declared.types.Place.{Place}
 use Rattle.store.specs.Stores.{Sound, Grown, term_in, part_in}

@@ -4,23 +4,20 @@ use Rattle.engine.specs.Meeting.{most_parts}
 use Rattle.equal.proofs.Promised.{judged_post, judged_few, open_store, room_for}
 use Rattle.equal.proofs.judge.Goals as goal
 
-pub returns-then-too-few : goal.returns-then-too-few
-returns-then-too-few c =
-    judged_few c.args.book.now c.args.ways.now (length c.args.work.now) (c.if-too-few.ensures.holds refl)
+pub returns-then-too_few : goal.returns-then-too_few
+returns-then-too_few c =
+    judged_few c.args.book.now c.args.ways.now (length c.args.work.now) (c.if-too_few.ensures.holds refl)
 
-pub returns-in-default : goal.returns-in-default
-returns-in-default c =
-    judged_few c.args.book.now c.args.ways.now (length c.args.work.now) (omega (arith, c.in-default.ensures))
+pub returns-in_default : goal.returns-in_default
+returns-in_default c =
+    judged_few c.args.book.now c.args.ways.now (length c.args.work.now) (omega (arith, c.in_default.ensures))
 
-pub judge-in-requires : goal.judge-in-requires
-judge-in-requires c =
+pub judge_in-requires : goal.judge_in-requires
+judge_in-requires c =
     let s = c.args.book.now in
     let h = c.args.ways.now in
     let w = length c.args.work.now in
-    let fresh = c.in-Some.ensures.1 in (
-      open_store s h w c.in-Some.share fresh,
-      (most_parts w, room_for s h w c.in-Some.share fresh (c.if-too-few.ensures.fails refl)),
-    )
+    let fresh = c.in-Some.ensures.1 in record { open_store = open_store s h w c.in-Some.share fresh; by_index = (most_parts w, room_for s h w c.in-Some.share fresh (c.if-too_few.ensures.fails refl)) }
 
 pub returns : goal.returns
 returns c =
@@ -29,7 +26,7 @@ returns c =
     let w = length c.args.work.now in
     let share = c.in-Some.share in
     let given = c.in-Some.ensures in
-    let enough = c.if-too-few.ensures.fails refl in
+    let enough = c.if-too_few.ensures.fails refl in
     judged_post s h w given.0 enough share.store share.roots share.frames
-    c.judge-in.new.store c.judge-in.new.roots c.judge-in.new.frames c.judge-in.result
-    (c.judge-in.ensures (most_parts w) (room_for s h w share given.1 enough))
+    c.judge_in.new.store c.judge_in.new.roots c.judge_in.new.frames c.judge_in.result
+    (c.judge_in.ensures (most_parts w) (room_for s h w share given.1 enough))

@@ -6,25 +6,22 @@ use Rattle.equal.proofs.Sides.{ample_kept}
 use Rattle.equal.proofs.Stable.{stable_book}
 use Rattle.equal.proofs.tell.Goals as goal
 
-pub returns-then-too-few-with-terms : goal.returns-then-too-few-with-terms
-returns-then-too-few-with-terms c =
+pub returns-then-too_few_with_terms : goal.returns-then-too_few_with_terms
+returns-then-too_few_with_terms c =
     told_small c.args.book.now c.args.ways.now c.args.one.now c.args.other.now (length c.args.work.now)
-    (c.if-too-few-with-terms.ensures.holds refl)
+    (c.if-too_few_with_terms.ensures.holds refl)
 
-pub returns-in-default : goal.returns-in-default
-returns-in-default c =
+pub returns-in_default : goal.returns-in_default
+returns-in_default c =
     told_small c.args.book.now c.args.ways.now c.args.one.now c.args.other.now (length c.args.work.now)
-    (omega (arith, c.in-default.ensures))
+    (omega (arith, c.in_default.ensures))
 
-pub judge-in-requires : goal.judge-in-requires
-judge-in-requires c =
+pub judge_in-requires : goal.judge_in-requires
+judge_in-requires c =
     let s = c.args.book.now in
     let h = c.args.ways.now in
     let w = length c.args.work.now in
-    let fresh = c.in-Some.ensures.1 in (
-      open_store s h w c.in-Some.share fresh,
-      (most_parts w, room_for s h w c.in-Some.share fresh (λ few. c.if-too-few-with-terms.ensures.fails refl (omega arith))),
-    )
+    let fresh = c.in-Some.ensures.1 in record { open_store = open_store s h w c.in-Some.share fresh; by_index = (most_parts w, room_for s h w c.in-Some.share fresh (λ few. c.if-too_few_with_terms.ensures.fails refl (omega arith))) }
 
 pub new-settled-requires : goal.new-settled-requires
 new-settled-requires c =
@@ -32,7 +29,7 @@ new-settled-requires c =
     let h = c.args.ways.now in
     let w = length c.args.work.now in
     let room = room_for s h w c.in-Some.share c.in-Some.ensures.1
-    (λ few. c.if-too-few-with-terms.ensures.fails refl (omega arith)) in
+    (λ few. c.if-too_few_with_terms.ensures.fails refl (omega arith)) in
     (c.in-Settles.ensures (most_parts w) room).says
 
 pub compare-requires : goal.compare-requires
@@ -41,7 +38,7 @@ compare-requires c =
     let h = c.args.ways.now in
     let w = length c.args.work.now in
     let room = room_for s h w c.in-Some.share c.in-Some.ensures.1
-    (λ few. c.if-too-few-with-terms.ensures.fails refl (omega arith)) in
+    (λ few. c.if-too_few_with_terms.ensures.fails refl (omega arith)) in
     let k = c.new-settled.result in
     let idle = (c.in-Settles.ensures (most_parts w) room).idle refl k.book (stable_book k.book k.sound)
     c.new-settled.ensures.book in
@@ -56,7 +53,7 @@ returns-in-Settles c =
     let w = length c.args.work.now in
     let share = c.in-Some.share in
     let fresh = c.in-Some.ensures.1 in
-    let enough = c.if-too-few-with-terms.ensures.fails refl in
+    let enough = c.if-too_few_with_terms.ensures.fails refl in
     let room = room_for s h w share fresh (λ few. enough (omega arith)) in
     let found = c.in-Settles.ensures (most_parts w) room in
     let k = c.new-settled.result in
@@ -64,20 +61,20 @@ returns-in-Settles c =
     let same = c.new-settled.ensures.book in
     told_rows s h x y w enough k.book sound same found.says c.compare.result
     (c.compare.ensures.result (most_parts w)
-    (ample_kept k.book share.store share.roots share.frames c.judge-in.new.store c.judge-in.new.roots
-    c.judge-in.new.frames (found.idle refl k.book sound same) (most_parts w) fresh.ample)
+    (ample_kept k.book share.store share.roots share.frames c.judge_in.new.store c.judge_in.new.roots
+    c.judge_in.new.frames (found.idle refl k.book sound same) (most_parts w) fresh.ample)
     (short s h x y w enough k.book sound same found.says (length x) (omega arith))
     (short s h x y w enough k.book sound same found.says (length y) (omega arith)))
 
-pub returns-in-default-judge-in : goal.returns-in-default-judge-in
-returns-in-default-judge-in c =
+pub returns-in_default-judge_in : goal.returns-in_default-judge_in
+returns-in_default-judge_in c =
     let s = c.args.book.now in
     let h = c.args.ways.now in
     let w = length c.args.work.now in
     let share = c.in-Some.share in
     let given = c.in-Some.ensures in
-    let enough = c.if-too-few-with-terms.ensures.fails refl in
+    let enough = c.if-too_few_with_terms.ensures.fails refl in
     told_refused s h c.args.one.now c.args.other.now w enough given.0 share.store share.roots share.frames
-    c.judge-in.new.store c.judge-in.new.roots c.judge-in.new.frames c.judge-in.result
-    (c.judge-in.ensures (most_parts w) (room_for s h w share given.1 (λ few. enough (omega arith))))
-    c.in-default-judge-in.not-Settles c.not_settled.result c.not_settled.ensures
+    c.judge_in.new.store c.judge_in.new.roots c.judge_in.new.frames c.judge_in.result
+    (c.judge_in.ensures (most_parts w) (room_for s h w share given.1 (λ few. enough (omega arith))))
+    c.in_default-judge_in.not-Settles c.not_settled.result c.not_settled.ensures

@@ -4,27 +4,24 @@ use Rattle.books.specs.Books.{SoundBook}
 use Rattle.equal.proofs.Saying.{judged_none, judged_up, judged_down, working, ample_with}
 use Rattle.equal.proofs.judging.judge_in.Goals as goal
 
-pub returns-in-default : goal.returns-in-default
-returns-in-default c n room = judged_none c.args.book.now c.args.ways.now n _ _ _ _ _ _ c.in-default.ensures
+pub returns-in_default : goal.returns-in_default
+returns-in_default c n room = judged_none c.args.book.now c.args.ways.now n _ _ _ _ _ _ c.in_default.ensures
 
-pub returns-in-Some-first-up : goal.returns-in-Some-first-up
-returns-in-Some-first-up c n room =
+pub returns-in-Some-first_up : goal.returns-in-Some-first_up
+returns-in-Some-first_up c n room =
     let read = c.in-Some.ensures in
     let k : Book = record { words = c.args.book; layout = c.in-Some.layout } in
     let sound : SoundBook k = record { reads = read.0; laid = read.1 } in
-    judged_up k sound c.args.ways.now n _ _ _ _ _ _ c.in-Some-first-up.i c.in-Some-first-up.ensures
+    judged_up k sound c.args.ways.now n _ _ _ _ _ _ c.in-Some-first_up.i c.in-Some-first_up.ensures
 
-pub judge-rules-requires : goal.judge-rules-requires
-judge-rules-requires c =
+pub judge_rules-requires : goal.judge_rules-requires
+judge_rules-requires c =
     let read = c.in-Some.ensures in
     let k : Book = record { words = c.args.book; layout = c.in-Some.layout } in
     let sound : SoundBook k = record { reads = read.0; laid = read.1 } in
     let st = c.args.store.now in
     let q = c.args.roots.now in
-    let n = c.requires.1 in (
-      (working k sound c.in-default-first-up.ensures st q c.requires.0, c.requires.0.none),
-      (n.0, ample_with k c.args.ways.now n.0 st q c.args.frames.now n.1),
-    )
+    let n = c.requires.by_index in record { working = (working k sound c.in_default-first_up.ensures st q c.requires.open_store, c.requires.open_store.none); by_index = (n.0, ample_with k c.args.ways.now n.0 st q c.args.frames.now n.1) }
 
 pub returns : goal.returns
 returns c n room =
@@ -35,6 +32,6 @@ returns c n room =
     let st = c.args.store.now in
     let q = c.args.roots.now in
     let fr = c.args.frames.now in
-    judged_down k sound h n st q fr c.judge-rules.new.store c.judge-rules.new.roots c.judge-rules.new.frames
-    c.in-default-first-up.ensures c.judge-rules.ensures.idle c.judge-rules.result
-    (c.judge-rules.ensures.result n (ample_with k h n st q fr room))
+    judged_down k sound h n st q fr c.judge_rules.new.store c.judge_rules.new.roots c.judge_rules.new.frames
+    c.in_default-first_up.ensures c.judge_rules.ensures.idle c.judge_rules.result
+    (c.judge_rules.ensures.result n (ample_with k h n st q fr room))

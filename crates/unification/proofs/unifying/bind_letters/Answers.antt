@@ -1,5 +1,5 @@
 -- One letter more.
-use Rattle.std.proofs.Common.{◌≡◌, ◌<◌, is_some, sym, ap, ◌∙◌, subst, arith, length-set}
+use Rattle.std.proofs.Common.{◌<◌, is_some, sym, ap, ◌∙◌, subst, arith, length-set}
 use Rattle.store.specs.declared.types.Place.{Place}
 use Rattle.unification.specs.Classes.{label}
 use Rattle.unification.specs.Images.{image}

@@ -1,5 +1,5 @@
 -- The least replacement, or none.
-use Rattle.std.proofs.Common.{◌≡◌, ◌+◌, ◌≤◌, ap, arith}
+use Rattle.std.proofs.Common.{◌≡◌, ap, arith}
 use Rattle.unification.specs.Images.{nones, unbuilt}
 use Rattle.unification.proofs.Built.{building_first}
 use Rattle.unification.proofs.Uniting.{never_one, unifier_is}

@@ -4,8 +4,8 @@ use Rattle.equal.proofs.Deciding.{stable_settles}
 use Rattle.equal.proofs.Excluding.{is_settled}
 use Rattle.equal.proofs.settled_book.Settled.compare.Goals as goal
 
-pub compare-terms-requires : goal.compare-terms-requires
-compare-terms-requires c =
+pub compare_terms-requires : goal.compare_terms-requires
+compare_terms-requires c =
     let k = c.args.self.now in (
       c.requires.0,
       (
