@@ -9,6 +9,7 @@ use options::{Asked, Options, read_arguments};
 use std::alloc::{AllocError, Global};
 use std::fs::File;
 use std::io::Read;
+use std::process::ExitCode;
 use std::{env, io};
 
 // The longest text that is read, in bytes.
@@ -111,16 +112,24 @@ fn judge(rt: &HostRuntime, options: Options<'_>) -> Result<(), Stopped> {
     }
 }
 
-fn main(rt: HostRuntime) -> Result<(), Stopped> {
-    let arguments: Vec<String> = env::args(&rt)?.skip(1).collect(rt.alloc())?;
+fn run(rt: &HostRuntime) -> Result<(), Stopped> {
+    let arguments: Vec<String> = env::args(rt)?.skip(1).collect(rt.alloc())?;
     match read_arguments(arguments.as_slice()) {
         Ok(Asked::Help) => println!(rt; "{HELP}")?,
         Ok(Asked::Version) => println!(rt; "judge 0.1.0")?,
-        Ok(Asked::Judge(options)) => judge(&rt, options)?,
+        Ok(Asked::Judge(options)) => judge(rt, options)?,
         Err(refusal) => {
             eprintln!(rt; "judge: {refusal}")?;
             return Err(Stopped);
         }
     }
     Ok(())
+}
+
+// An error of `main` would be told once more, and so it gives the status alone.
+fn main(rt: HostRuntime) -> ExitCode {
+    match run(&rt) {
+        Ok(()) => ExitCode::SUCCESS,
+        Err(Stopped) => ExitCode::FAILURE,
+    }
 }
