@@ -1,6 +1,7 @@
 -- Words whose parts are in order are a book; words with one that isn't are none.
-use Rattle.std.proofs.Common.{◌≡◌, ℕ, zero, suc, ◌+◌, ◌-◌, ◌*◌, ◌<◌, ◌≤◌, List, [], ◌∷◌, ◌++◌, length, get_or, take, drop, Some, None, Option as Maybe, sym, refl, ap, ◌∙◌, subst, ap₂, append_assoc, append-nil, arith, length-drop, length-take-le}
-use mathlib.Core.Option.{Option, some, none}
+use Rattle.std.proofs.Common.{◌≡◌, ℕ, ◌+◌, ◌-◌, ◌*◌, ◌<◌, ◌≤◌, List, [], ◌∷◌, ◌++◌, length, get_or, take, drop, None, Option as Maybe, sym}
+use Rattle.std.proofs.Common.{refl, ap, ◌∙◌, subst, ap₂, append-nil, arith, length-drop, length-take-le}
+use mathlib.Core.Option.{some}
 use native.Mathlib.Decide.{dec_lt}
 use lib.Seq.{drop-length}
 use Rattle.rewriting.specs.Terms.{nth, Term, letter, Terms, none1, and1, count, AllOver, SmallLetter}
@@ -18,7 +19,7 @@ use Rattle.books.proofs.Glueing.{count_others, over_others}
 use Rattle.books.proofs.Reading.{read_these}
 use Rattle.books.proofs.Elements.{nth_getD, nth_below, nth_is}
 use Rattle.books.proofs.Heads.{head_of, words_are}
-use Rattle.books.proofs.Sided.{terms, terms_listed, count_terms, rows_both, length_sides, over_sides, short_sides}
+use Rattle.books.proofs.Sided.{terms, terms_listed, count_terms, rows_both, short_sides}
 use Rattle.books.proofs.Sided.{sides_paired, length_paired, listed_paired}
 use Rattle.books.proofs.Siding.{short_others}
 use Rattle.books.proofs.Unique.{sides_count, all_over_sides}

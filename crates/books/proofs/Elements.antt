@@ -1,6 +1,6 @@
 -- Elements of lists: `nth`, which may find none, beside `get_or`, `length`, `take` and `++`.
-use Rattle.std.proofs.Common.{◌≡◌, ℕ, zero, suc, ◌+◌, ◌<◌, ◌≤◌, Bool, List, [], ◌∷◌, ◌++◌, length, get_or, sym, refl, ap, ◌∙◌, subst, arith}
-use mathlib.Core.Option.{Option, some, none}
+use Rattle.std.proofs.Common.{◌≡◌, ℕ, zero, suc, ◌<◌, ◌≤◌, List, [], ◌∷◌, length, get_or, refl, arith}
+use mathlib.Core.Option.{some, none}
 use Rattle.rewriting.specs.Terms.{nth}
 use Rattle.books.proofs.Reading.{no_some}
 

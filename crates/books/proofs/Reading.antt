@@ -1,10 +1,11 @@
 -- Reading terms is exact: what is read is written there, and what is written there is read.
-use Rattle.std.proofs.Common.{◌≡◌, ℕ, zero, suc, ◌+◌, ◌*◌, ◌<◌, ◌≤◌, Bool, true, false, cond, T, ltb, List, [], ◌∷◌, ◌++◌, length, sym, refl, ap, ◌∙◌, subst, append_assoc, append-nil, zero-add, arith, ltb→lt, lt→ltb, length-append}
+use Rattle.std.proofs.Common.{◌≡◌, ℕ, zero, suc, ◌+◌, ◌≤◌, Bool, true, false, cond, T, ltb, List, [], ◌∷◌, ◌++◌, sym, refl, ap, ◌∙◌, subst}
+use Rattle.std.proofs.Common.{append_assoc, zero-add, arith, ltb→lt, lt→ltb}
 use mathlib.Core.Option.{Option, some, none}
-use Rattle.rewriting.specs.Terms.{nth, Term, letter, sign, Terms, none1, and1, glue, count, size, sizes, Over, AllOver}
+use Rattle.rewriting.specs.Terms.{Term, letter, sign, Terms, none1, and1, glue, count, Over, AllOver}
 use Rattle.books.specs.Rows.{row, rows}
 use Rattle.books.specs.Reading.{Allowed, allowed, opens, first, others}
-use Rattle.books.specs.Reading.{Found, symbol, topped, opened, read, left_of, terms_of}
+use Rattle.books.specs.Reading.{Found, symbol, topped, opened, read}
 use Rattle.books.specs.declared.words.Letters.{Letters}
 use Rattle.books.specs.declared.words.Letters.TheVariants.{Small, Any}
 use Rattle.books.proofs.Glueing.{glue_none, first_glue, others_glue, glue_split, count_first, count_others, rows_glue}

@@ -1,11 +1,12 @@
 -- Where terms end: what a loop over symbols keeps, and what it comes to.
-use Rattle.std.proofs.Common.{◌≡◌, ℕ, zero, suc, ◌+◌, ◌-◌, ◌*◌, ◌/◌, ◌<◌, ◌≤◌, List, [], ◌∷◌, ◌++◌, length, get_or, drop, Some, None, Option as Maybe, sym, refl, ap, ◌∙◌, subst, append-nil, add-one, arith, length-append, length-drop, drop-cons}
-use mathlib.Core.Option.{Option, some, none}
-use Rattle.rewriting.specs.Terms.{nth, Term, Terms, none1, and1, count, sizes, AllOver, Over}
+use Rattle.std.proofs.Common.{◌≡◌, ℕ, zero, suc, ◌+◌, ◌-◌, ◌*◌, ◌<◌, ◌≤◌, List, ◌∷◌, ◌++◌, length, get_or, drop, Some, None}
+use Rattle.std.proofs.Common.{Option as Maybe, sym, refl, ap, ◌∙◌, append-nil, add-one, arith, length-append, length-drop, drop-cons}
+use mathlib.Core.Option.{some, none}
+use Rattle.rewriting.specs.Terms.{Terms, none1, and1, count, sizes, AllOver}
 use Rattle.rewriting.proofs.Glueing.{size_some, count_sizes}
 use Rattle.books.specs.Rows.{row, rows}
 use Rattle.books.specs.Reading.{Allowed, opens, tag, number, SymbolAt, Asks}
-use Rattle.books.specs.Reading.{Found, topped, read, left_of, TermsAt, TermsEnd, TermEnd, TermAt}
+use Rattle.books.specs.Reading.{Found, topped, read, left_of, TermsAt, TermsEnd, TermEnd}
 use Rattle.books.specs.declared.words.Symbol.{Symbol}
 use Rattle.books.specs.declared.words.Letters.{Letters}
 use Rattle.books.proofs.Glueing.{row_length, rows_length}

@@ -1,11 +1,11 @@
 -- Sides of equations as terms in a row, and back.
-use Rattle.std.proofs.Common.{◌≡◌, ℕ, zero, suc, ◌+◌, ◌*◌, ◌<◌, ◌≤◌, List, [], ◌∷◌, ◌++◌, length, sym, refl, ap, ◌∙◌, subst, ap₂, append_assoc, append-nil, arith}
-use mathlib.Core.Option.{Option, some, none}
-use Rattle.rewriting.specs.Terms.{nth, Term, Terms, none1, and1, glue, count, size, Over, AllOver, SmallLetter}
+use Rattle.std.proofs.Common.{◌≡◌, ℕ, zero, suc, ◌+◌, ◌*◌, ◌≤◌, List, [], ◌∷◌, ◌++◌, length, refl, ap, ◌∙◌, subst, append_assoc, arith}
+use mathlib.Core.Option.{some}
+use Rattle.rewriting.specs.Terms.{nth, Term, Terms, none1, and1, glue, count, AllOver, SmallLetter}
 use Rattle.rewriting.specs.Rules.{Eq}
 use Rattle.rewriting.specs.Books.{Sides, AllSides}
 use Rattle.books.specs.Rows.{row, rows, rowEs, rowTerms}
-use Rattle.books.specs.Reading.{first, others, paired}
+use Rattle.books.specs.Reading.{others, paired}
 use Rattle.books.specs.Layouts.{sides, listed, Short}
 use Rattle.books.proofs.Reading.{no_some}
 

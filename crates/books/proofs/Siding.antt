@@ -1,16 +1,15 @@
 -- Sides, one after the other: what a loop over them keeps, and why it stops.
-use Rattle.std.proofs.Common.{◌≡◌, ℕ, zero, suc, ◌+◌, ◌-◌, ◌*◌, ◌<◌, ◌≤◌, ◌≢◌, ◌⊎◌, List, [], ◌∷◌, ◌++◌, length, get_or, drop, set, Some, None, Option as Maybe, sym, refl, ap, ◌∙◌, subst, ap₂, subst₂, inl, inr, append_assoc, append-nil, arith, length-append, length-drop, get_or-set_other, get_or-set_same}
-use mathlib.Core.Option.{Option, some, none}
-use native.Mathlib.Decide.{dec_lt}
+use Rattle.std.proofs.Common.{◌≡◌, ℕ, zero, suc, ◌+◌, ◌<◌, ◌≤◌, ◌≢◌, ◌⊎◌, List, ◌++◌, length, get_or, drop, set, None, sym, refl, ap, ◌∙◌}
+use Rattle.std.proofs.Common.{subst, inl, inr, append_assoc, append-nil, arith, length-drop, get_or-set_other, get_or-set_same}
+use mathlib.Core.Option.{some}
 use Rattle.rewriting.specs.Terms.{nth, Term, Terms, none1, and1, glue, count, size, Over, AllOver, SmallLetter}
 use Rattle.rewriting.proofs.Glueing.{count_glue}
 use Rattle.books.specs.Rows.{row, rows}
-use Rattle.books.specs.Reading.{first, others, read, TermAt, TermEnd}
+use Rattle.books.specs.Reading.{first, others, TermAt, TermEnd}
 use Rattle.books.specs.Layouts.{listed, Short, SidesAt, SidesRead}
 use Rattle.books.specs.declared.words.Letters.TheVariants.{Small}
 use Rattle.books.proofs.Glueing.{glue_split, count_first, count_others, rows_glue, over_glue, over_first, over_others}
 use Rattle.books.proofs.Reading.{no_some}
-use Rattle.books.proofs.Elements.{nth_below}
 use Rattle.books.proofs.Unique.{rows_once}
 
 short_glue : (ts us : Terms) → Short ts → Short us → Short (glue ts us)

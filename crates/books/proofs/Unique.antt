@@ -1,19 +1,20 @@
 -- Rows say at most one thing.
-use Rattle.std.proofs.Common.{◌≡◌, ℕ, zero, suc, ◌+◌, ◌*◌, ◌<◌, ◌≤◌, List, [], ◌∷◌, ◌++◌, length, drop, sym, refl, ap, ◌∙◌, subst, ap₂, append_assoc, append-nil, arith, length-append}
-use mathlib.Core.Option.{Option, some, none}
-use Rattle.rewriting.specs.Terms.{nth, Term, Terms, none1, and1, glue, count, Over, AllOver, SmallLetter, AnyLetter}
+use Rattle.std.proofs.Common.{◌≡◌, ℕ, ◌+◌, ◌*◌, List, [], ◌∷◌, ◌++◌, length, drop, sym, refl, ap, ◌∙◌, subst, ap₂, append-nil, arith}
+use Rattle.std.proofs.Common.{length-append}
+use mathlib.Core.Option.{some}
+use Rattle.rewriting.specs.Terms.{Term, Terms, none1, and1, glue, count, AllOver, SmallLetter, AnyLetter}
 use Rattle.rewriting.specs.Rules.{Eq}
 use Rattle.rewriting.specs.Books.{Book, Fine}
-use Rattle.books.specs.Rows.{row, rows, rowEs, rowTerms, rowWays, Reads, Of, AllFit, WaysFit}
+use Rattle.books.specs.Rows.{rows, rowTerms, rowWays, Reads, AllFit, WaysFit}
 use Rattle.books.specs.Reading.{Allowed, read, terms_of, others, paired}
-use Rattle.books.specs.Reading.{book_of, signs_of, parts_of, ranks_of, eqs_of, rules_of, body_of}
+use Rattle.books.specs.Reading.{book_of, parts_of, eqs_of, rules_of, body_of}
 use Rattle.books.specs.Layouts.{sides, sides_of, listed}
 use Rattle.books.specs.Theorems.{OneBook, TheBook, OneTerm, OneWays, OneReading, SumRow}
 use Rattle.books.specs.declared.words.Letters.{Letters}
 use Rattle.books.specs.declared.words.Letters.TheVariants.{Small, Any}
 use Rattle.books.proofs.Glueing.{glue_none, others_glue}
 use Rattle.books.proofs.Reading.{read_these}
-use Rattle.books.proofs.Heads.{Head, head_of}
+use Rattle.books.proofs.Heads.{head_of}
 use Rattle.books.proofs.Sided.{terms, listed_terms, count_terms, rows_terms, glue_terms}
 use Rattle.books.proofs.Sided.{length_sides, rows_both, over_sides, paired_sides}
 

@@ -1,5 +1,5 @@
 -- The rules of a book by their top signs.
-use Rattle.std.specs.Prelude.{◌≡◌, ℕ, ◌+◌, ◌*◌, ◌<◌, ◌≤◌, List, length, slice_index}
+use Rattle.std.specs.Prelude.{◌≡◌, ℕ, ◌+◌, ◌*◌, ◌<◌, ◌≤◌, List, slice_index}
 use Rattle.books.specs.declared.index.Index.{Index}
 
 -- the number of the first symbol of rule i's left side

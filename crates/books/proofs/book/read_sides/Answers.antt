@@ -1,6 +1,6 @@
 -- One side more, or the reason why there is none.
-use Rattle.std.proofs.Common.{◌≡◌, ℕ, ◌+◌, ◌<◌, length, None, refl, ap, ◌∙◌, subst, arith, length-set}
-use Rattle.books.specs.Layouts.{SidesAt, SidesRead}
+use Rattle.std.proofs.Common.{◌≡◌, ℕ, ◌+◌, refl, ◌∙◌, subst, arith, length-set}
+use Rattle.books.specs.Layouts.{SidesAt}
 use Rattle.books.proofs.Siding.{sides_none, sides_more, no_side, long_side, more_words}
 use Rattle.books.proofs.book.read_sides.Goals as goal
 

@@ -1,5 +1,5 @@
 -- One rule more in the index.
-use Rattle.std.proofs.Common.{◌≡◌, ℕ, ◌+◌, ◌-◌, length, refl, ◌∙◌, subst, arith, length-set}
+use Rattle.std.proofs.Common.{◌≡◌, ℕ, ◌+◌, ◌-◌, refl, ◌∙◌, subst, arith, length-set}
 use Rattle.books.specs.Indexing.{IndexedFrom, top_word}
 use Rattle.books.proofs.Indexing.{index_none, index_more}
 use Rattle.books.proofs.index.index_rules.Goals as goal

@@ -1,5 +1,5 @@
 -- Each turn reads one symbol.
-use Rattle.std.proofs.Common.{◌≡◌, ℕ, ◌+◌, ◌-◌, ◌*◌, ◌<◌, ◌≤◌, length, drop, sym, ap, ◌∙◌, arith, length-drop}
+use Rattle.std.proofs.Common.{◌≡◌, ℕ, ◌+◌, ◌*◌, ◌<◌, ◌≤◌, length, drop, sym, ap, ◌∙◌, arith, length-drop}
 use Rattle.books.specs.Reading.{read, left_of}
 use Rattle.books.proofs.Scanning.{left_few, turn, stuck, no_symbol, ended, none_there}
 use Rattle.books.proofs.words.terms_end.Goals as goal
