@@ -1,5 +1,6 @@
 -- Rules and equations by the book's words.
-use Rattle.std.proofs.Common.{◌≡◌, ℕ, zero, suc, ◌+◌, ◌-◌, ◌*◌, ◌<◌, ◌≤◌, List, [], ◌∷◌, ◌++◌, length, get_or, take, drop, sym, refl, ap, ◌∙◌, ap₂, subst₂, arith}
+use Rattle.std.proofs.Common.{◌≡◌, ℕ, zero, suc, ◌+◌, ◌-◌, ◌*◌, ◌<◌, ◌≤◌, List, [], ◌∷◌, ◌++◌, length, get_or, take, drop, sym, refl, ap}
+use Rattle.std.proofs.Common.{◌∙◌, ap₂, subst₂, arith}
 use mathlib.Core.Option.{some}
 use lib.Seq.{take-append_seam}
 use Rattle.rewriting.specs.Terms.{nth, Term}
@@ -13,7 +14,7 @@ use Rattle.books.proofs.Glueing.{row_length}
 use Rattle.books.proofs.Heads.{head_of}
 use Rattle.books.proofs.Sided.{nth_left, nth_right, nth_behind, nth_front}
 use Rattle.books.specs.declared.row.Book.{Book}
-use Rattle.books.specs.Books.{told, SoundBook, blank, rule_in, equation_in, SidesStand, RuleAt, EquationAt}
+use Rattle.books.specs.Books.{told, SoundBook, blank, rule_in, equation_in, RuleAt, EquationAt}
 
 module _ (k : Book) (sound : SoundBook k) where
   start : ℕ → ℕ
@@ -22,14 +23,13 @@ module _ (k : Book) (sound : SoundBook k) where
   -- side n, and the one behind it, are those of an equation or a rule
   stand : (n : ℕ) (e : Eq) → nth (sides_of (told k)) n ≡ some e.left → nth (sides_of (told k)) (n + 1) ≡ some e.right →
       (a m z : ℕ) → a ≡ get_or k.layout.starts n 0 → m ≡ get_or k.layout.starts (n + 1) 0 → z ≡ get_or k.layout.starts (n + 2) 0 →
-      SidesStand k.words.now e a m z
+      TermAt k.words.now a m e.left × TermAt k.words.now m z e.right
   stand n e hl hr a m z ea em ez =
-      let g : n + 1 + 1 ≡ n + 2 = omega arith in
-      record {
-        left = subst₂ (λ (x y : ℕ). TermAt k.words.now x y e.left) (sym ea) (sym em) (sound.laid.at n e.left hl);
-        right = subst₂ (λ (x y : ℕ). TermAt k.words.now x y e.right) (sym em)
-            (ap (λ (j : ℕ). get_or k.layout.starts j 0) g ∙ sym ez) (sound.laid.at (n + 1) e.right hr);
-      }
+      let g : n + 1 + 1 ≡ n + 2 = omega arith in (
+        subst₂ (λ (x y : ℕ). TermAt k.words.now x y e.left) (sym ea) (sym em) (sound.laid.at n e.left hl),
+        subst₂ (λ (x y : ℕ). TermAt k.words.now x y e.right) (sym em)
+            (ap (λ (j : ℕ). get_or k.layout.starts j 0) g ∙ sym ez) (sound.laid.at (n + 1) e.right hr),
+      )
 
   -- rule i
   module _ (i : ℕ) (low : i < length (told k).rules) where
@@ -42,15 +42,21 @@ module _ (k : Book) (sound : SoundBook k) where
     pub rule_at : (a m z : ℕ) → a ≡ get_or k.layout.starts (2 * (k.layout.equations + i)) 0 →
         m ≡ get_or k.layout.starts (2 * (k.layout.equations + i) + 1) 0 →
         z ≡ get_or k.layout.starts (2 * (k.layout.equations + i) + 2) 0 → RuleAt k i a m z
-    rule_at =
+    rule_at a m z ea em ez =
         let n = 2 * (k.layout.equations + i) in
         let d : n ≡ 2 * length (told k).eqs + 2 * i = omega (arith, sound.laid.equations) in
         let f : n + 1 ≡ 2 * length (told k).eqs + (2 * i + 1) = omega arith in
-        stand n (rule_in k i)
-        (ap (nth (sides_of (told k))) d ∙ (nth_behind (told k).eqs (sides (told k).rules) (2 * i)
-        ∙ nth_left (told k).rules i (rule_in k i) is_rule))
-        (ap (nth (sides_of (told k))) f ∙ (nth_behind (told k).eqs (sides (told k).rules) (2 * i + 1)
-        ∙ nth_right (told k).rules i (rule_in k i) is_rule))
+        let l : nth (sides_of (told k)) n ≡ some (rule_in k i).left =
+        ap (nth (sides_of (told k))) d ∙ (nth_behind (told k).eqs (sides (told k).rules) (2 * i)
+        ∙ nth_left (told k).rules i (rule_in k i) is_rule) in
+        let r : nth (sides_of (told k)) (n + 1) ≡ some (rule_in k i).right =
+        ap (nth (sides_of (told k))) f ∙ (nth_behind (told k).eqs (sides (told k).rules) (2 * i + 1)
+        ∙ nth_right (told k).rules i (rule_in k i) is_rule) in
+        let h = stand n (rule_in k i) l r a m z ea em ez in
+        record {
+          left = h.0;
+          right = h.1;
+        }
 
   -- equation i
   module _ (i : ℕ) (low : i < length (told k).eqs) where
@@ -62,11 +68,18 @@ module _ (k : Book) (sound : SoundBook k) where
 
     pub equation_at : (a m z : ℕ) → a ≡ get_or k.layout.starts (2 * i) 0 → m ≡ get_or k.layout.starts (2 * i + 1) 0 →
         z ≡ get_or k.layout.starts (2 * i + 2) 0 → EquationAt k i a m z
-    equation_at = stand (2 * i) (equation_in k i)
-        (nth_front (sides (told k).eqs) (sides (told k).rules) (2 * i) (equation_in k i).left
-        (nth_left (told k).eqs i (equation_in k i) is_equation))
-        (nth_front (sides (told k).eqs) (sides (told k).rules) (2 * i + 1) (equation_in k i).right
-        (nth_right (told k).eqs i (equation_in k i) is_equation))
+    equation_at a m z ea em ez =
+        let l : nth (sides_of (told k)) (2 * i) ≡ some (equation_in k i).left =
+        nth_front (sides (told k).eqs) (sides (told k).rules) (2 * i) (equation_in k i).left
+        (nth_left (told k).eqs i (equation_in k i) is_equation) in
+        let r : nth (sides_of (told k)) (2 * i + 1) ≡ some (equation_in k i).right =
+        nth_front (sides (told k).eqs) (sides (told k).rules) (2 * i + 1) (equation_in k i).right
+        (nth_right (told k).eqs i (equation_in k i) is_equation) in
+        let h = stand (2 * i) (equation_in k i) l r a m z ea em ez in
+        record {
+          left = h.0;
+          right = h.1;
+        }
 
 -- the words say how many parts each sign has
 pub record PartsTold (ps ws : List ℕ) : Type 0 where

@@ -1,5 +1,6 @@
 -- Words whose parts are in order are a book; words with one that isn't are none.
-use Rattle.std.proofs.Common.{◌≡◌, ℕ, ◌+◌, ◌-◌, ◌*◌, ◌<◌, ◌≤◌, List, [], ◌∷◌, ◌++◌, length, get_or, take, drop, None, Option as Maybe, sym, refl, ap, ◌∙◌, subst, ap₂, append-nil, arith, length-drop, length-take-le}
+use Rattle.std.proofs.Common.{◌≡◌, ℕ, ◌+◌, ◌-◌, ◌*◌, ◌<◌, ◌≤◌, List, [], ◌∷◌, ◌++◌, length, get_or, take, drop, None, Option as Maybe, sym}
+use Rattle.std.proofs.Common.{refl, ap, ◌∙◌, subst, ap₂, append-nil, arith, length-drop, length-take-le}
 use mathlib.Core.Option.{some}
 use native.Mathlib.Decide.{dec_lt}
 use lib.Seq.{drop-length}

@@ -1,5 +1,6 @@
 -- The numbers at the start of a book's row.
-use Rattle.std.proofs.Common.{◌≡◌, ℕ, suc, ◌+◌, ◌*◌, ◌<◌, ◌≤◌, List, ◌∷◌, ◌++◌, length, get_or, take, drop, sym, refl, ap, ◌∙◌, subst, append_assoc, one-add, arith, length-append, take-append-drop, drop-cons, drop-drop, get_or-append-add}
+use Rattle.std.proofs.Common.{◌≡◌, ℕ, suc, ◌+◌, ◌*◌, ◌<◌, ◌≤◌, List, ◌∷◌, ◌++◌, length, get_or, take, drop, sym, refl, ap, ◌∙◌, subst}
+use Rattle.std.proofs.Common.{append_assoc, one-add, arith, length-append, take-append-drop, drop-cons, drop-drop, get_or-append-add}
 use lib.Seq.{take-append_seam, drop-append_seam, drop-append-add}
 use Rattle.rewriting.specs.Books.{Book}
 use Rattle.books.specs.Rows.{Reads, rowEs, rowB}
@@ -36,7 +37,8 @@ module _ (b : Book) (same : length b.ranks ≡ length b.parts) where
   at_front : (k : ℕ) → get_or (rowB b) (k + 1 + 2 * length b.parts) 0 ≡ get_or back k 0
   at_front k =
       let e : k + 1 + 2 * length b.parts ≡ length front + k = omega (arith, front_long) in
-      ap (λ (i : ℕ). get_or (rowB b) i 0) e ∙ (ap (λ (v : List ℕ). get_or v (length front + k) 0) front_back ∙ get_or-append-add front back k 0)
+      ap (λ (i : ℕ). get_or (rowB b) i 0) e
+      ∙ (ap (λ (v : List ℕ). get_or v (length front + k) 0) front_back ∙ get_or-append-add front back k 0)
 
   row_parts : take (length b.parts) (b.parts ++ (b.ranks ++ back)) ≡ b.parts
   row_parts = take-append_seam b.parts (b.ranks ++ back)

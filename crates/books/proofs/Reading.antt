@@ -1,5 +1,6 @@
 -- Reading terms is exact: what is read is written there, and what is written there is read.
-use Rattle.std.proofs.Common.{◌≡◌, ℕ, zero, suc, ◌+◌, ◌≤◌, Bool, true, false, cond, T, ltb, List, [], ◌∷◌, ◌++◌, sym, refl, ap, ◌∙◌, subst, append_assoc, zero-add, arith, ltb→lt, lt→ltb}
+use Rattle.std.proofs.Common.{◌≡◌, ℕ, zero, suc, ◌+◌, ◌≤◌, Bool, true, false, cond, T, ltb, List, [], ◌∷◌, ◌++◌, sym, refl, ap, ◌∙◌, subst}
+use Rattle.std.proofs.Common.{append_assoc, zero-add, arith, ltb→lt, lt→ltb}
 use mathlib.Core.Option.{Option, some, none}
 use Rattle.rewriting.specs.Terms.{Term, letter, sign, Terms, none1, and1, glue, count, Over, AllOver}
 use Rattle.books.specs.Rows.{row, rows}

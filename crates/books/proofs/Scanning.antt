@@ -1,5 +1,6 @@
 -- Where terms end: what a loop over symbols keeps, and what it comes to.
-use Rattle.std.proofs.Common.{◌≡◌, ℕ, zero, suc, ◌+◌, ◌-◌, ◌*◌, ◌<◌, ◌≤◌, List, ◌∷◌, ◌++◌, length, get_or, drop, Some, None, Option as Maybe, sym, refl, ap, ◌∙◌, append-nil, add-one, arith, length-append, length-drop, drop-cons}
+use Rattle.std.proofs.Common.{◌≡◌, ℕ, zero, suc, ◌+◌, ◌-◌, ◌*◌, ◌<◌, ◌≤◌, List, ◌∷◌, ◌++◌, length, get_or, drop, Some, None}
+use Rattle.std.proofs.Common.{Option as Maybe, sym, refl, ap, ◌∙◌, append-nil, add-one, arith, length-append, length-drop, drop-cons}
 use mathlib.Core.Option.{some, none}
 use Rattle.rewriting.specs.Terms.{Terms, none1, and1, count, sizes, AllOver}
 use Rattle.rewriting.proofs.Glueing.{size_some, count_sizes}

@@ -1,5 +1,6 @@
 -- Rows say at most one thing.
-use Rattle.std.proofs.Common.{◌≡◌, ℕ, ◌+◌, ◌*◌, List, [], ◌∷◌, ◌++◌, length, drop, sym, refl, ap, ◌∙◌, subst, ap₂, append-nil, arith, length-append}
+use Rattle.std.proofs.Common.{◌≡◌, ℕ, ◌+◌, ◌*◌, List, [], ◌∷◌, ◌++◌, length, drop, sym, refl, ap, ◌∙◌, subst, ap₂, append-nil, arith}
+use Rattle.std.proofs.Common.{length-append}
 use mathlib.Core.Option.{some}
 use Rattle.rewriting.specs.Terms.{Term, Terms, none1, and1, glue, count, AllOver, SmallLetter, AnyLetter}
 use Rattle.rewriting.specs.Rules.{Eq}

@@ -1,5 +1,6 @@
 -- Words that are a term; ways in a row: what a loop over the rules keeps, and why it stops.
-use Rattle.std.proofs.Common.{◌≡◌, ℕ, ◌+◌, ◌-◌, ◌<◌, ◌≤◌, false, eqb, ◌↔◌, List, [], ◌∷◌, ◌++◌, length, get_or, drop, Some, None, sym, refl, ap, ◌∙◌, ap₂, append-nil, add-one, arith, length-drop, drop-cons, eqb-true}
+use Rattle.std.proofs.Common.{◌≡◌, ℕ, ◌+◌, ◌-◌, ◌<◌, ◌≤◌, false, eqb, ◌↔◌, List, [], ◌∷◌, ◌++◌, length, get_or, drop, Some, None, sym, refl}
+use Rattle.std.proofs.Common.{ap, ◌∙◌, ap₂, append-nil, add-one, arith, length-drop, drop-cons, eqb-true}
 use borrow.Author.Tests.{eqb-false, clash}
 use lib.Seq.{drop-length}
 use Rattle.rewriting.specs.Answers.{Tells}

@@ -1,5 +1,5 @@
 -- A book by its words: its equations and rules, and where their sides stand.
-use Rattle.std.specs.Prelude.{ℕ, List, slice_index_or}
+use Rattle.std.specs.Prelude.{ℕ, slice_index_or}
 use Rattle.rewriting.specs.Terms.{letter}
 use Rattle.rewriting.specs.Rules.{Eq}
 use Rattle.rewriting.specs.Books.{Book as Told}
@@ -27,14 +27,12 @@ rule_in k i = slice_index_or (told k).rules i blank
 abbrev pub equation_in : Book → ℕ → Eq
 equation_in k i = slice_index_or (told k).eqs i blank
 
--- the left side stands in the words from place a up to place m, and the right side from there up to place z
-pub record SidesStand (ws : List ℕ) (e : Eq) (a m z : ℕ) : Type 0 where
-  pub left : TermAt ws a m e.left
-  pub right : TermAt ws m z e.right
+-- where the sides of rule i stand in the words
+pub record RuleAt (k : Book) (i a m z : ℕ) : Type 0 where
+  pub left : TermAt k.words.now a m (rule_in k i).left
+  pub right : TermAt k.words.now m z (rule_in k i).right
 
--- where the sides of rule i and of equation i stand in the words
-abbrev pub RuleAt : Book → ℕ → ℕ → ℕ → ℕ → Type 0
-RuleAt k i a m z = SidesStand k.words.now (rule_in k i) a m z
-
-abbrev pub EquationAt : Book → ℕ → ℕ → ℕ → ℕ → Type 0
-EquationAt k i a m z = SidesStand k.words.now (equation_in k i) a m z
+-- where the sides of equation i stand in the words
+pub record EquationAt (k : Book) (i a m z : ℕ) : Type 0 where
+  pub left : TermAt k.words.now a m (equation_in k i).left
+  pub right : TermAt k.words.now m z (equation_in k i).right

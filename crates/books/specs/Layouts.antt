@@ -1,5 +1,6 @@
 -- Where the sides of a book's equations and rules stand in its row.
-use Rattle.std.specs.Prelude.{◌≡◌, ℕ, ◌+◌, ◌<◌, ◌≤◌, List, [], ◌∷◌, ◌++◌, length, drop, Some, None, Option as Maybe, ◌≢◌, slice_index, slice_index_or}
+use Rattle.std.specs.Prelude.{◌≡◌, ℕ, ◌+◌, ◌<◌, ◌≤◌, List, [], ◌∷◌, ◌++◌, length, drop, Some, None, Option as Maybe, ◌≢◌, slice_index}
+use Rattle.std.specs.Prelude.{slice_index_or}
 use Rattle.std.proofs.Math.Option.{some}
 use Rattle.rewriting.specs.Terms.{nth, Term, Terms, none1, and1, count, size, AllOver, SmallLetter}
 use Rattle.rewriting.specs.Rules.{Eq}

@@ -1,5 +1,6 @@
 -- Reading rows, as functions of the words: some terms in a row, and the book that a row says.
-use Rattle.std.specs.Prelude.{◌≡◌, ℕ, zero, suc, ◌+◌, ◌*◌, ◌<◌, ◌≤◌, Bool, true, cond, List, [], ◌∷◌, ◌++◌, length, take, drop, Some, None, Option as Maybe, ◌≢◌, nat_lt, slice_index}
+use Rattle.std.specs.Prelude.{◌≡◌, ℕ, zero, suc, ◌+◌, ◌*◌, ◌<◌, ◌≤◌, Bool, true, cond, List, [], ◌∷◌, ◌++◌, length, take, drop, Some, None}
+use Rattle.std.specs.Prelude.{Option as Maybe, ◌≢◌, nat_lt, slice_index}
 use Rattle.std.proofs.Math.Option.{Option, some, none}
 use Rattle.rewriting.specs.Terms.{nth, Term, letter, sign, Terms, none1, and1, count, size, sizes, AllOver, Over}
 use Rattle.rewriting.specs.Rules.{Eq}

@@ -1,5 +1,6 @@
 -- Comparing terms where they stand.
-use Rattle.std.proofs.Common.{◌≡◌, ℕ, ◌+◌, ◌-◌, ◌*◌, ◌<◌, true, false, List, [], ◌++◌, get_or, take, drop, Some, None, sym, refl, ap, ◌∙◌, subst, inl, inr, arith, length-drop}
+use Rattle.std.proofs.Common.{◌≡◌, ℕ, ◌+◌, ◌-◌, ◌*◌, ◌<◌, true, false, List, [], ◌++◌, get_or, take, drop, Some, None, sym, refl, ap, ◌∙◌}
+use Rattle.std.proofs.Common.{subst, inl, inr, arith, length-drop}
 use Rattle.std.proofs.lemmas.List.{get_or-drop, take_more_same}
 use Rattle.rewriting.specs.Terms.{Term, Terms, none1, and1, count, size, Fits, SmallLetter}
 use Rattle.rewriting.specs.Order.{Rank, Greater, Grounded, grounded, FirstGreater, further}

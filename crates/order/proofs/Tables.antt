@@ -1,5 +1,6 @@
 -- A table stays truthful.
-use Rattle.std.proofs.Common.{◌≡◌, ℕ, ◌+◌, ◌*◌, ◌<◌, ◌≤◌, Bool, List, length, get_or, set, replicate, Some, None, Option as Maybe, sym, ap, ◌∙◌, inl, inr, arith}
+use Rattle.std.proofs.Common.{◌≡◌, ℕ, ◌+◌, ◌*◌, ◌<◌, ◌≤◌, Bool, List, length, get_or, set, replicate, Some, None, Option as Maybe, sym, ap}
+use Rattle.std.proofs.Common.{◌∙◌, inl, inr, arith}
 use native.Mathlib.Decide.{ℕ_discrete, dec_lt}
 use Rattle.std.proofs.lemmas.List.{get_or-set_same, get_or-set_other, get_or-replicate, get_or_past, set_past}
 use Rattle.order.specs.declared.terms.Comparison.{Comparison}
