@@ -1,5 +1,6 @@
 -- From a term's row to that of its normal form.
-use Rattle.std.proofs.Common.{◌≡◌, ℕ, ◌+◌, ◌-◌, ◌*◌, ◌<◌, ◌≤◌, true, false, List, [], ◌∷◌, length, take, drop, Ok, Err, sym, ap, ◌∙◌, subst, arith}
+use Rattle.std.proofs.Common.{◌≡◌, ℕ, ◌+◌, ◌-◌, ◌*◌, ◌<◌, ◌≤◌, true, false, List, [], ◌∷◌, length, take, drop, Ok, Err, sym, ap, ◌∙◌}
+use Rattle.std.proofs.Common.{subst, arith}
 use native.Mathlib.Decide.{dec_lt}
 use Rattle.rewriting.specs.Terms.{Term, size, Fits, SmallLetter}
 use Rattle.rewriting.specs.Rules.{Steps, stay, Done}
@@ -47,7 +48,8 @@ module _ (b : Told) (ts : List ℕ) (t : Term) (of : Of b.parts ts t) (n : ℕ) 
   by_different : (u : Term) → Steps b.rules t u → n < different (u ∷ []) → Outgrown b ts n
   by_different u s l = outgrown u s (omega (arith, different_size u))
 
-  pub not_read : (a c : Store) (q r : Roots) (fr : Frames) → q.top ≡ 0 → Ample n a q fr → (x : Full) → Read a q t c r (Err x) → Outgrown b ts n
+  pub not_read : (a c : Store) (q r : Roots) (fr : Frames) → q.top ≡ 0 → Ample n a q fr → (x : Full) → Read a q t c r (Err x) →
+      Outgrown b ts n
   not_read a c q r fr bare m NoSlot h =
       let e = ap (λ (j : ℕ). different (t ∷ listed (λ k. held a q k) j)) bare in
       by_different t stay (omega (arith, e, h.roots.1, m.slots))
@@ -57,8 +59,8 @@ module _ (b : Told) (ts : List ℕ) (t : Term) (of : Of b.parts ts t) (n : ℕ) 
       at (yes l) = l
       at (no l) = absurd (h.roots.1 (omega (arith, m.cells)))
 
-  pub wanting : (room words cells low : ℕ) (g : ℕ → Term) (u : Term) → low ≡ 0 → 2 * n + 640 ≤ room → 4 * n + 16 ≤ words → 6 * n + 256 ≤ cells →
-      Steps b.rules t u → Wanting room words cells low g u → Outgrown b ts n
+  pub wanting : (room words cells low : ℕ) (g : ℕ → Term) (u : Term) → low ≡ 0 → 2 * n + 640 ≤ room → 4 * n + 16 ≤ words →
+      6 * n + 256 ≤ cells → Steps b.rules t u → Wanting room words cells low g u → Outgrown b ts n
   wanting room words cells low g u e a c d s (few_slots l) =
       let f = ap (λ (j : ℕ). different (u ∷ listed g j)) e in
       by_different u s (omega (arith, f))
@@ -148,7 +150,8 @@ module _ (k : Book) (sound : SoundBook k) where
 pub refused : (b : Told) (ts vs ws : List ℕ) (q : Roots) (v : Term) (n : ℕ) → q.top ≡ 1 → 6 * n + 256 ≤ length q.cells.now →
     NormalForm b ts v → (x : Short) → WrittenOrShort q v vs ws (Err x) → NormalAnswers b ts n (length vs) ws (refusal_of x)
 refused b ts vs ws q v n one long f NoWord h = (v, f, h)
-refused b ts vs ws q v n one long f NoCell h = record { term = f.term; of = f.of; large = v; steps = f.steps; more = at (dec_lt n (size v)) }
+refused b ts vs ws q v n one long f NoCell h =
+    record { term = f.term; of = f.of; large = v; steps = f.steps; more = at (dec_lt n (size v)) }
   where
     at : Dec (n < size v) → n < size v
     at (yes l) = l

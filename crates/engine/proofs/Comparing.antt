@@ -1,5 +1,6 @@
 -- Two roots brought to normal form one after the other, and what too little room says of their terms.
-use Rattle.std.proofs.Common.{◌≡◌, ℕ, ◌+◌, ◌-◌, ◌<◌, ◌≤◌, Bool, true, false, ◌⊎◌, List, [], ◌∷◌, length, sym, refl, ap, ◌∙◌, subst, inl, inr, arith}
+use Rattle.std.proofs.Common.{◌≡◌, ℕ, ◌+◌, ◌-◌, ◌<◌, ◌≤◌, Bool, true, false, ◌⊎◌, List, [], ◌∷◌, length, sym, refl, ap, ◌∙◌, subst, inl}
+use Rattle.std.proofs.Common.{inr, arith}
 use native.Mathlib.Decide.{dec_lt}
 use Rattle.rewriting.specs.Terms.{Term, Fits}
 use Rattle.rewriting.specs.Rules.{Eq, Steps, stay, Done}

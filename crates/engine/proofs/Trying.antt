@@ -1,5 +1,6 @@
 -- Rules tried at the top of a term: where the top sign of a left side stands, and what the rules that failed say together.
-use Rattle.std.proofs.Common.{◌≡◌, ℕ, ◌+◌, ◌<◌, ◌≤◌, List, ◌∷◌, ◌++◌, length, get_or, drop, sym, refl, ap, ◌∙◌, subst, arith, length-drop, get_or-drop}
+use Rattle.std.proofs.Common.{◌≡◌, ℕ, ◌+◌, ◌<◌, ◌≤◌, List, ◌∷◌, ◌++◌, length, get_or, drop, sym, refl, ap, ◌∙◌, subst, arith, length-drop}
+use Rattle.std.proofs.Common.{get_or-drop}
 use Rattle.rewriting.specs.Terms.{Term, letter, sign, Terms, put, puts, SmallLetter, Fits}
 use Rattle.rewriting.specs.Rules.{Eq}
 use Rattle.rewriting.specs.Order.{Rank, rank, Greater, by_part, by_sign, by_order}

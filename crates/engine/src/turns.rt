@@ -131,7 +131,8 @@ fn go_out(
     v: Place,
 ) -> Focus
     requires can_turn { CanTurn book.now store.old roots.old frames.old (Back v) }
-    requires count_bound { (store.old.count + 33 ≤ store.old.limit) × ((TopFrame roots.old frames.old frame) × (frame.done ≡ frame.others)) }
+    requires count_bound { (store.old.count + 33 ≤ store.old.limit) ×
+        ((TopFrame roots.old frames.old frame) × (frame.done ≡ frame.others)) }
     ensures { TurnsFrom book.now store.old roots.old frames.old (Back v)
         store.new roots.new frames.new result }
 {

@@ -1,5 +1,6 @@
 -- The sides of equations as rows, and a loop over the equations that looks whether they meet.
-use Rattle.std.proofs.Common.{◌≡◌, ℕ, ◌+◌, ◌-◌, ◌<◌, ◌≤◌, true, length, take, drop, is_some as option_is_some, Some, None, Option as Maybe, sym, refl, ◌∙◌, subst, arith}
+use Rattle.std.proofs.Common.{◌≡◌, ℕ, ◌+◌, ◌-◌, ◌<◌, ◌≤◌, true, length, take, drop, is_some as option_is_some, Some, None}
+use Rattle.std.proofs.Common.{Option as Maybe, sym, refl, ◌∙◌, subst, arith}
 use native.Mathlib.Decide.{ℕ_discrete}
 use Rattle.rewriting.specs.Terms.{SmallLetter, Fits}
 use Rattle.rewriting.specs.Rules.{Eq, Meet}

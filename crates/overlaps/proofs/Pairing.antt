@@ -1,5 +1,6 @@
 -- The least replacement at an overlap, and the two results.
-use Rattle.std.proofs.Common.{◌≡◌, ℕ, ◌+◌, ◌-◌, ◌<◌, ◌≤◌, min, true, false, List, length, take, drop, Some, None, Option as Maybe, sym, ap, ◌∙◌, subst, subst₂, ⊎_elim, arith}
+use Rattle.std.proofs.Common.{◌≡◌, ℕ, ◌+◌, ◌-◌, ◌<◌, ◌≤◌, min, true, false, List, length, take, drop, Some, None, Option as Maybe, sym}
+use Rattle.std.proofs.Common.{ap, ◌∙◌, subst, subst₂, ⊎_elim, arith}
 use Rattle.rewriting.specs.Terms.{Term, letter, size, In, Over, Fits, SmallLetter}
 use Rattle.rewriting.specs.Rules.{Eq, Part, renamed}
 use Rattle.rewriting.specs.Overlaps.{fill}

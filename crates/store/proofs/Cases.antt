@@ -1,5 +1,6 @@
 -- Cases on numbers.
-use Rattle.std.proofs.Common.{◌≡◌, ℕ, ◌+◌, ◌<◌, ◌≤◌, Bool, true, false, eqb, leb, ◌⊎◌, sym, refl, subst, inl, inr, ⊎_elim, eq-or-lt_of_le, arith, eqb-true, leb-false, leb-true}
+use Rattle.std.proofs.Common.{◌≡◌, ℕ, ◌+◌, ◌<◌, ◌≤◌, Bool, true, false, eqb, leb, ◌⊎◌, sym, refl, subst, inl, inr, ⊎_elim, eq-or-lt_of_le}
+use Rattle.std.proofs.Common.{arith, eqb-true, leb-false, leb-true}
 use borrow.Author.Tests.{eqb-false}
 
 pub le_or_lt : (a b : ℕ) → (a ≤ b) ⊎ (b < a)

@@ -1,5 +1,7 @@
 -- Writing a row: the words so far, and the roots that hold the terms still to be written, the first uppermost.
-use Rattle.std.proofs.Common.{◌≡◌, ℕ, zero, suc, ◌+◌, ◌-◌, ◌*◌, ◌<◌, ◌≤◌, ◌≢◌, List, [], ◌∷◌, ◌++◌, length, get_or, take, set, Err, sym, refl, ap, ◌∙◌, ⊎_elim, append_assoc, append-nil, arith, length-append, length-set, length-take-le, get_or-set_other}
+use Rattle.std.proofs.Common.{◌≡◌, ℕ, zero, suc, ◌+◌, ◌-◌, ◌*◌, ◌<◌, ◌≤◌, ◌≢◌, List, [], ◌∷◌, ◌++◌, length, get_or, take, set, Err, sym}
+use Rattle.std.proofs.Common.{refl, ap, ◌∙◌, ⊎_elim, append_assoc, append-nil, arith, length-append, length-set, length-take-le}
+use Rattle.std.proofs.Common.{get_or-set_other}
 use Rattle.std.proofs.lemmas.List.{take_more_set}
 use Rattle.rewriting.specs.Terms.{Term, letter, sign, Terms, none1, and1, count, size, sizes, glue}
 use Rattle.books.specs.Rows.{row, rows}

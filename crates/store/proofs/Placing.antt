@@ -1,5 +1,6 @@
 -- A store with one more slot; flags and notes carried on; roots kept; a root put in the place of others.
-use Rattle.std.proofs.Common.{◌≡◌, ℕ, zero, suc, ◌+◌, ◌-◌, ◌*◌, ◌<◌, ◌≤◌, List, length, get_or, Some, None, Option, Result, refl, ap, ◌∙◌, subst, ⊎_elim, arith}
+use Rattle.std.proofs.Common.{◌≡◌, ℕ, zero, suc, ◌+◌, ◌-◌, ◌*◌, ◌<◌, ◌≤◌, List, length, get_or, Some, None, Option, Result, refl, ap, ◌∙◌}
+use Rattle.std.proofs.Common.{subst, ⊎_elim, arith}
 use Rattle.rewriting.specs.Terms.{Term, and1}
 use Rattle.rewriting.specs.Different.{different}
 use Rattle.rewriting.proofs.Different.{listed_same}

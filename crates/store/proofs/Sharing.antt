@@ -1,5 +1,6 @@
 -- A sign shared by places of its parts; room made for more slots.
-use Rattle.std.proofs.Common.{◌≡◌, ℕ, zero, suc, ◌+◌, ◌-◌, ◌<◌, ◌≤◌, Bool, true, false, leb, List, [], ◌∷◌, get_or, Some, Option, sym, refl, ap, ◌∙◌, subst, arith, leb-false, leb-true}
+use Rattle.std.proofs.Common.{◌≡◌, ℕ, zero, suc, ◌+◌, ◌-◌, ◌<◌, ◌≤◌, Bool, true, false, leb, List, [], ◌∷◌, get_or, Some, Option, sym}
+use Rattle.std.proofs.Common.{refl, ap, ◌∙◌, subst, arith, leb-false, leb-true}
 use Rattle.rewriting.specs.Terms.{Term, sign}
 use Rattle.store.specs.declared.types.Store.{Store}
 use Rattle.store.specs.declared.types.Roots.{Roots}

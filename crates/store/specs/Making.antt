@@ -1,5 +1,6 @@
 -- What comes of making terms and of collecting.
-use Rattle.std.specs.Prelude.{◌≡◌, ℕ, ◌+◌, ◌<◌, ◌≤◌, min, Bool, true, false, List, length, Some, None, Ok, Err, Option, Result, slice_index_or}
+use Rattle.std.specs.Prelude.{◌≡◌, ℕ, ◌+◌, ◌<◌, ◌≤◌, min, Bool, true, false, List, length, Some, None, Ok, Err, Option, Result}
+use Rattle.std.specs.Prelude.{slice_index_or}
 use Rattle.rewriting.specs.Terms.{Term, Terms, letter, sign}
 use Rattle.store.specs.declared.types.Store.{Store}
 use Rattle.store.specs.declared.types.Roots.{Roots}

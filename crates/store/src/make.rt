@@ -106,7 +106,8 @@ impl Store<'_> {
         Some(Place(n))
     }
 
-    // Keeps what the roots hold and drops the rest. If that is more than a quarter of the limit, the limit is doubled, as far as there is room.
+    // Keeps what the roots hold and drops the rest. If that is more than a quarter of the limit, the limit is doubled, as far as there is
+    // room.
     pub fn collect(&mut self, roots: &mut Roots)
         requires { (Sound self.old) × (Inside self.old roots.old) }
         ensures { KeptOnly self.old roots.old self.new roots.new }

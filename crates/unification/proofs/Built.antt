@@ -1,5 +1,7 @@
 -- Images built: one image more, none yet, and classes that wait for each other.
-use Rattle.std.proofs.Common.{◌≡◌, ℕ, zero, suc, ◌+◌, ◌<◌, ◌≤◌, Bool, true, false, ◌≢◌, List, [], ◌∷◌, length, get_or, set, replicate, Some, None, Option as Maybe, sym, refl, ap, ◌∙◌, subst, ⊎_elim, arith, length-set, get_or-set_other, get_or-set_same, below_more}
+use Rattle.std.proofs.Common.{◌≡◌, ℕ, zero, suc, ◌+◌, ◌<◌, ◌≤◌, Bool, true, false, ◌≢◌, List, [], ◌∷◌, length, get_or, set, replicate}
+use Rattle.std.proofs.Common.{Some, None, Option as Maybe, sym, refl, ap, ◌∙◌, subst, ⊎_elim, arith, length-set, get_or-set_other}
+use Rattle.std.proofs.Common.{get_or-set_same, below_more}
 use lib.ListN.{length-replicate, get_or-replicate}
 use Rattle.rewriting.specs.Terms.{Term, letter, sign, Terms, put, puts, size, sizes}
 use Rattle.store.specs.declared.types.Store.{Store}

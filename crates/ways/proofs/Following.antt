@@ -1,5 +1,6 @@
 -- A way followed term by term.
-use Rattle.std.proofs.Common.{◌≡◌, ℕ, ◌+◌, ◌-◌, ◌<◌, ◌≤◌, Bool, true, false, List, [], ◌∷◌, ◌++◌, length, drop, Some, None, sym, refl, ap, ◌∙◌, subst, subst₂, append_assoc, append-nil, arith}
+use Rattle.std.proofs.Common.{◌≡◌, ℕ, ◌+◌, ◌-◌, ◌<◌, ◌≤◌, Bool, true, false, List, [], ◌∷◌, ◌++◌, length, drop, Some, None, sym, refl, ap}
+use Rattle.std.proofs.Common.{◌∙◌, subst, subst₂, append_assoc, append-nil, arith}
 use Rattle.rewriting.specs.Answers.{Tells}
 use Rattle.rewriting.specs.Terms.{Term, none1, and1, size, sizes, Fits, SmallLetter}
 use Rattle.rewriting.specs.Rules.{Eq}

@@ -1,5 +1,6 @@
 -- Terms read from words for which there is room.
-use Rattle.std.proofs.Common.{◌≡◌, ℕ, zero, suc, ◌+◌, ◌-◌, ◌*◌, ◌≤◌, ◌⊎◌, List, [], ◌∷◌, length, take, drop, Ok, Err, Result, sym, ap, ◌∙◌, ap₂, inl, inr, arith}
+use Rattle.std.proofs.Common.{◌≡◌, ℕ, zero, suc, ◌+◌, ◌-◌, ◌*◌, ◌≤◌, ◌⊎◌, List, [], ◌∷◌, length, take, drop, Ok, Err, Result, sym, ap}
+use Rattle.std.proofs.Common.{◌∙◌, ap₂, inl, inr, arith}
 use lib.Seq.{take-append_seam}
 use Rattle.rewriting.specs.Terms.{Term, size, sizes}
 use Rattle.rewriting.specs.Different.{different, listed, PartOf, of_first, of_later}

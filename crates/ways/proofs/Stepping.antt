@@ -1,5 +1,6 @@
 -- What the search for a step keeps: two terms that stand for the first two, or the parts of a term that are still to be looked at.
-use Rattle.std.proofs.Common.{◌≡◌, ℕ, suc, ◌+◌, ◌-◌, ◌<◌, ◌≤◌, Bool, true, false, ◌⊎◌, List, length, None, Ok, Err, Result, sym, refl, ap, ◌∙◌, subst, subst₂, inl, inr, arith}
+use Rattle.std.proofs.Common.{◌≡◌, ℕ, suc, ◌+◌, ◌-◌, ◌<◌, ◌≤◌, Bool, true, false, ◌⊎◌, List, length, None, Ok, Err, Result, sym, refl, ap}
+use Rattle.std.proofs.Common.{◌∙◌, subst, subst₂, inl, inr, arith}
 use borrow.Author.Tests.{clash}
 use Rattle.rewriting.specs.Answers.{Tells}
 use Rattle.rewriting.specs.Terms.{Term, letter, sign, Terms, none1, and1, glue, count, size, sizes, AllOver, AnyLetter, Fits}

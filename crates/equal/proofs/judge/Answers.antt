@@ -17,7 +17,11 @@ judge_in-requires c =
     let s = c.args.book.now in
     let h = c.args.ways.now in
     let w = length c.args.work.now in
-    let fresh = c.in-Some.ensures.1 in record { open_store = open_store s h w c.in-Some.share fresh; by_index = (most_parts w, room_for s h w c.in-Some.share fresh (c.if-too_few.ensures.fails refl)) }
+    let fresh = c.in-Some.ensures.1 in
+    record {
+      open_store = open_store s h w c.in-Some.share fresh;
+      by_index = (most_parts w, room_for s h w c.in-Some.share fresh (c.if-too_few.ensures.fails refl));
+    }
 
 pub returns : goal.returns
 returns c =

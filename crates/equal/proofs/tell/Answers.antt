@@ -21,7 +21,11 @@ judge_in-requires c =
     let s = c.args.book.now in
     let h = c.args.ways.now in
     let w = length c.args.work.now in
-    let fresh = c.in-Some.ensures.1 in record { open_store = open_store s h w c.in-Some.share fresh; by_index = (most_parts w, room_for s h w c.in-Some.share fresh (λ few. c.if-too_few_with_terms.ensures.fails refl (omega arith))) }
+    let fresh = c.in-Some.ensures.1 in
+    record {
+      open_store = open_store s h w c.in-Some.share fresh;
+      by_index = (most_parts w, room_for s h w c.in-Some.share fresh (λ few. c.if-too_few_with_terms.ensures.fails refl (omega arith)));
+    }
 
 pub new-settled-requires : goal.new-settled-requires
 new-settled-requires c =

@@ -55,7 +55,11 @@ overflow_add-at c =
 pub way-requires : goal.way-requires
 way-requires c =
     let sound = c.requires.0.book in
-    let low : c.loop-i.i < length (told c.args.book.now).rules = omega (arith, sound.laid.rules, c.rules-rules.ensures) in record { roomy = (c.loop-i.invariant.1, signature_is c.args.book.now sound c.signs.result c.signs.ensures); i_in_bounds = (low, c.loop-i.invariant.0) }
+    let low : c.loop-i.i < length (told c.args.book.now).rules = omega (arith, sound.laid.rules, c.rules-rules.ensures) in
+    record {
+      roomy = (c.loop-i.invariant.1, signature_is c.args.book.now sound c.signs.result c.signs.ensures);
+      i_in_bounds = (low, c.loop-i.invariant.0);
+    }
 
 pub returns-in_default : goal.returns-in_default
 returns-in_default c =

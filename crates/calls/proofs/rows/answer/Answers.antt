@@ -9,8 +9,11 @@ use Rattle.calls.proofs.rows.answer.Goals as goal
 pub returns-in-Some-first_up : goal.returns-in-Some-first_up
 returns-in-Some-first_up c =
     let (r, l) = c.in-Some.ensures in
-    let u = c.in-Some-first_up.ensures in
-    (r, up_not_down (record { words = c.args.words; layout = c.in-Some.layout }) (record { reads = r; laid = l }) c.in-Some-first_up.i u.0 u.1)
+    let u = c.in-Some-first_up.ensures in (
+      r,
+      up_not_down (record { words = c.args.words; layout = c.in-Some.layout }) (record { reads = r; laid = l }) c.in-Some-first_up.i
+          u.0 u.1,
+    )
 
 pub slice_bounds-is_term-end : goal.slice_bounds-is_term-end
 slice_bounds-is_term-end c =
@@ -37,4 +40,7 @@ in_words-requires c =
     let k : Book = record { words = c.args.words; layout = c.in-Some.layout } in
     let s : SoundBook k = record { reads = r; laid = l } in
     let (t, o) = c.is_term.ensures.holds c.if-not-is_term.false in
-    record { sound_book = (s, c.in_default-first_up.ensures); of = (t, of_told k s c.signs-signs.result c.signs-signs.ensures c.args.term.now t o) }
+    record {
+      sound_book = (s, c.in_default-first_up.ensures);
+      of = (t, of_told k s c.signs-signs.result c.signs-signs.ensures c.args.term.now t o);
+    }

@@ -17,14 +17,26 @@ slice_bounds-parts-end c = omega (arith, signature_within c.args.book.now c.requ
 pub read_row-requires : goal.read_row-requires
 read_row-requires c =
     let k = c.args.book.now in
-    let (t, of) = c.requires.of in record { sound = (c.requires.sound.0, (none_inside _ _ c.requires.sound.1.1, few_parts k c.requires.sound_book.0 c.signs.result c.signs.ensures)); row_of = (t, row_here k c.requires.sound_book.0 c.signs.result c.signs.ensures c.args.term.now t of) }
+    let (t, of) = c.requires.of in
+    record {
+      sound = (
+        c.requires.sound.0,
+        (
+          none_inside _ _ c.requires.sound.1.1,
+          few_parts k c.requires.sound_book.0 c.signs.result
+              c.signs.ensures,
+        ),
+      );
+      row_of = (t, row_here k c.requires.sound_book.0 c.signs.result c.signs.ensures c.args.term.now t of);
+    }
 
 pub normalize-requires : goal.normalize-requires
 normalize-requires c =
     let k = c.args.book.now in
     let (t, of) = c.requires.of in
     let row1 = row_here k c.requires.sound_book.0 c.signs.result c.signs.ensures c.args.term.now t of in
-    startable k c.requires.sound_book.0 c.requires.sound_book.1 c.args.term.now t of _ _ _ _ c.in_default.field-0 c.requires.sound.1.0 c.requires.sound.1.1
+    startable k c.requires.sound_book.0 c.requires.sound_book.1 c.args.term.now t of _ _ _ _ c.in_default.field-0 c.requires.sound.1.0
+    c.requires.sound.1.1
     (c.in_default.ensures t row1)
 
 pub place-requires : goal.place-requires
@@ -32,7 +44,8 @@ place-requires c =
     let k = c.args.book.now in
     let (t, of) = c.requires.of in
     let row1 = row_here k c.requires.sound_book.0 c.signs.result c.signs.ensures c.args.term.now t of in
-    let e = one_root k c.requires.sound_book.0 c.requires.sound_book.1 c.args.term.now t of _ _ _ _ c.in_default.field-0 c.requires.sound.1.0 c.requires.sound.1.1
+    let e = one_root k c.requires.sound_book.0 c.requires.sound_book.1 c.args.term.now t of _ _ _ _ c.in_default.field-0
+    c.requires.sound.1.0 c.requires.sound.1.1
     (c.in_default.ensures t row1) _ _ _ _ c.if-not-normalize.ensures in
     omega (arith, e, c.normalize.ensures.inside.fits)
 
@@ -41,7 +54,8 @@ write_row-requires c =
     let k = c.args.book.now in
     let (t, of) = c.requires.of in
     let row1 = row_here k c.requires.sound_book.0 c.signs.result c.signs.ensures c.args.term.now t of in
-    let e = one_root k c.requires.sound_book.0 c.requires.sound_book.1 c.args.term.now t of _ _ _ _ c.in_default.field-0 c.requires.sound.1.0 c.requires.sound.1.1
+    let e = one_root k c.requires.sound_book.0 c.requires.sound_book.1 c.args.term.now t of _ _ _ _ c.in_default.field-0
+    c.requires.sound.1.0 c.requires.sound.1.1
     (c.in_default.ensures t row1) _ _ _ _ c.if-not-normalize.ensures in (
       c.normalize.ensures.sound,
       (c.normalize.ensures.inside, omega (arith, c.place.ensures, c.normalize.ensures.inside.low 0 (omega (arith, e)))),
@@ -52,7 +66,8 @@ returns-in-Ok c =
     let k = c.args.book.now in
     let (t, of) = c.requires.of in
     let row1 = row_here k c.requires.sound_book.0 c.signs.result c.signs.ensures c.args.term.now t of in
-    let v = normal k c.requires.sound_book.0 c.requires.sound_book.1 c.args.term.now t of _ _ _ _ c.in_default.field-0 c.requires.sound.1.0 c.requires.sound.1.1
+    let v = normal k c.requires.sound_book.0 c.requires.sound_book.1 c.args.term.now t of _ _ _ _ c.in_default.field-0
+    c.requires.sound.1.0 c.requires.sound.1.1
     (c.in_default.ensures t row1) _ _ _ _ c.if-not-normalize.ensures in
     let w = c.in-Ok.ensures.written in
     let e = ap (λ (j : ℕ). term_in c.normalize.new.store j) c.place.ensures in
@@ -70,7 +85,8 @@ returns-then-not-normalize c n m =
     let k = c.args.book.now in
     let (t, of) = c.requires.of in
     let row1 = row_here k c.requires.sound_book.0 c.signs.result c.signs.ensures c.args.term.now t of in
-    stopped k c.requires.sound_book.0 c.requires.sound_book.1 c.args.term.now t of _ _ _ _ c.in_default.field-0 c.requires.sound.1.0 c.requires.sound.1.1
+    stopped k c.requires.sound_book.0 c.requires.sound_book.1 c.args.term.now t of _ _ _ _ c.in_default.field-0 c.requires.sound.1.0
+    c.requires.sound.1.1
     (c.in_default.ensures t row1) n _ _ _ _ m c.if-not-normalize.ensures
 
 pub returns-in-Err-write_row : goal.returns-in-Err-write_row
@@ -80,11 +96,14 @@ returns-in-Err-write_row c n m =
     let row1 = row_here k c.requires.sound_book.0 c.signs.result c.signs.ensures c.args.term.now t of in
     let read = c.in_default.ensures t row1 in
     let normalized = c.if-not-normalize.ensures in
-    let v = normal k c.requires.sound_book.0 c.requires.sound_book.1 c.args.term.now t of _ _ _ _ c.in_default.field-0 c.requires.sound.1.0 c.requires.sound.1.1
+    let v = normal k c.requires.sound_book.0 c.requires.sound_book.1 c.args.term.now t of _ _ _ _ c.in_default.field-0
+    c.requires.sound.1.0 c.requires.sound.1.1
     read _ _ _ _ normalized in
-    let one = one_root k c.requires.sound_book.0 c.requires.sound_book.1 c.args.term.now t of _ _ _ _ c.in_default.field-0 c.requires.sound.1.0
+    let one = one_root k c.requires.sound_book.0 c.requires.sound_book.1 c.args.term.now t of _ _ _ _ c.in_default.field-0
+    c.requires.sound.1.0
     c.requires.sound.1.1 read _ _ _ _ normalized in
-    let long = cells_long k c.requires.sound_book.0 c.requires.sound_book.1 c.args.term.now t of _ _ _ _ c.in_default.field-0 c.requires.sound.1.0
+    let long = cells_long k c.requires.sound_book.0 c.requires.sound_book.1 c.args.term.now t of _ _ _ _ c.in_default.field-0
+    c.requires.sound.1.0
     c.requires.sound.1.1 read n _ _ _ _ m normalized in
     let e = ap (λ (j : ℕ). term_in c.normalize.new.store j) c.place.ensures in
     let w = subst (λ (x : Term). WrittenOrShort c.normalize.new.roots x c.args.out.now c.write_row.new.out

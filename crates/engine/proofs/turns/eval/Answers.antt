@@ -9,7 +9,12 @@ apply-requires c =
     let b = c.args.book.now in
     let st = c.args.store.now in
     let q = c.args.roots.now in
-    let fr = c.args.frames.now in record { rewritable = (eval_rewritable b low st q fr c.args.p ready, omega (arith, c.requires.1.slots)); honest = ready.running.honest; done = λ h. letter_normal b low st q fr c.args.p ready c.in_default.field-0 c.in_default.ensures.1 }
+    let fr = c.args.frames.now in
+    record {
+      rewritable = (eval_rewritable b low st q fr c.args.p ready, omega (arith, c.requires.1.slots));
+      honest = ready.running.honest;
+      done = λ h. letter_normal b low st q fr c.args.p ready c.in_default.field-0 c.in_default.ensures.1;
+    }
 
 pub apply-requires-then-n-eq0 : goal.apply-requires-then-n-eq0
 apply-requires-then-n-eq0 c =
@@ -17,7 +22,12 @@ apply-requires-then-n-eq0 c =
     let b = c.args.book.now in
     let st = c.args.store.now in
     let q = c.args.roots.now in
-    let fr = c.args.frames.now in record { rewritable = (eval_rewritable b low st q fr c.args.p ready, omega (arith, c.requires.1.slots)); honest = ready.running.honest; done = leaf_normal b low st q fr c.args.p ready c.in-Sign.f c.in-Sign.n c.in-Sign.ensures.2 c.if-n-eq0.true }
+    let fr = c.args.frames.now in
+    record {
+      rewritable = (eval_rewritable b low st q fr c.args.p ready, omega (arith, c.requires.1.slots));
+      honest = ready.running.honest;
+      done = leaf_normal b low st q fr c.args.p ready c.in-Sign.f c.in-Sign.n c.in-Sign.ensures.2 c.if-n-eq0.true;
+    }
 
 pub returns-in_default : goal.returns-in_default
 returns-in_default c low ready =

@@ -13,7 +13,18 @@ pub compare_sides-requires : goal.compare_sides-requires
 compare_sides-requires c =
     let idle = c.loop-i.invariant.0 in
     let n = c.requires.by_index in record {
-      working = (idle.working, (idle.none, omega (arith, c.loop-i-test.true, c.equations-i-end.ensures, c.requires.working.0.book.laid.equations)));
+      working = (
+        idle.working,
+        (
+          idle.none,
+          omega (
+            arith,
+            c.loop-i-test.true,
+            c.equations-i-end.ensures,
+            c.requires.working.0.book.laid.equations,
+          ),
+        ),
+      );
       by_index = (
         n.0,
         ample_on c.args.book.now c.args.store.now c.args.roots.now c.args.frames.now

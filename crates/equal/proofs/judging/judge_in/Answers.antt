@@ -21,7 +21,11 @@ judge_rules-requires c =
     let sound : SoundBook k = record { reads = read.0; laid = read.1 } in
     let st = c.args.store.now in
     let q = c.args.roots.now in
-    let n = c.requires.by_index in record { working = (working k sound c.in_default-first_up.ensures st q c.requires.open_store, c.requires.open_store.none); by_index = (n.0, ample_with k c.args.ways.now n.0 st q c.args.frames.now n.1) }
+    let n = c.requires.by_index in
+    record {
+      working = (working k sound c.in_default-first_up.ensures st q c.requires.open_store, c.requires.open_store.none);
+      by_index = (n.0, ample_with k c.args.ways.now n.0 st q c.args.frames.now n.1);
+    }
 
 pub returns : goal.returns
 returns c n room =

@@ -15,7 +15,12 @@ results_meet-requires c =
     let d = idle_then (idle_then c.pairs.invariant.idle c.loop-j.invariant.idle) c.loop-k.invariant.idle in
     let long : length c.left.result.now ≡ 2 * size (rule_in b c.pairs.i).left =
     ap length c.left.ensures ∙ row_length (rule_in b c.pairs.i).left in
-    let rules = d.working.book.laid.rules in record { working = (d.working, (d.none, (c.requires.1.1.0, ample_still d c.requires.1.1.1))); i_in_bounds = (omega (arith, c.rules-rules.ensures), omega (arith, c.rules-rules.ensures)); k_bound = omega arith }
+    let rules = d.working.book.laid.rules in
+    record {
+      working = (d.working, (d.none, (c.requires.1.1.0, ample_still d c.requires.1.1.1)));
+      i_in_bounds = (omega (arith, c.rules-rules.ensures), omega (arith, c.rules-rules.ensures));
+      k_bound = omega arith;
+    }
 
 pub loop-k-preserved : goal.loop-k-preserved
 loop-k-preserved c =

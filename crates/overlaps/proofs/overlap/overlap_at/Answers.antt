@@ -12,25 +12,30 @@ same_sign-requires c =
     let b = c.args.book.now in (
       omega (
         arith,
-        left_length b c.requires.sound_book.0 c.requires.sound_book.1 c.args.i c.args.j c.args.k c.requires.i_in_bounds.0 c.requires.i_in_bounds.1 _ _
+        left_length b c.requires.sound_book.0 c.requires.sound_book.1 c.args.i c.args.j c.args.k c.requires.i_in_bounds.0
+            c.requires.i_in_bounds.1 _ _
             c.left-left.ensures c.left.ensures,
       ),
-      other_some b c.requires.sound_book.0 c.requires.sound_book.1 c.args.i c.args.j c.args.k c.requires.i_in_bounds.0 c.requires.i_in_bounds.1 _ _
+      other_some b c.requires.sound_book.0 c.requires.sound_book.1 c.args.i c.args.j c.args.k c.requires.i_in_bounds.0
+          c.requires.i_in_bounds.1 _ _
           c.left-left.ensures c.left.ensures,
     )
 
 pub returns-then-not-same_sign : goal.returns-then-not-same_sign
 returns-then-not-same_sign c =
-    other_sign c.args.book.now c.requires.sound_book.0 c.requires.sound_book.1 c.args.i c.args.j c.args.k c.requires.i_in_bounds.0 c.requires.i_in_bounds.1 _ _
+    other_sign c.args.book.now c.requires.sound_book.0 c.requires.sound_book.1 c.args.i c.args.j c.args.k c.requires.i_in_bounds.0
+    c.requires.i_in_bounds.1 _ _
     c.left-left.ensures c.left.ensures (c.if-not-same_sign.ensures.fails refl)
 
 pub returns-in-Some : goal.returns-in-Some
 returns-in-Some c =
-    overlap_is c.args.book.now c.requires.sound_book.0 c.requires.sound_book.1 c.args.i c.args.j c.args.k c.requires.i_in_bounds.0 c.requires.i_in_bounds.1 _ _
+    overlap_is c.args.book.now c.requires.sound_book.0 c.requires.sound_book.1 c.args.i c.args.j c.args.k c.requires.i_in_bounds.0
+    c.requires.i_in_bounds.1 _ _
     c.left-left.ensures c.left.ensures _ c.parts.ensures c.in-Some.to c.requires.k_bound
     (c.same_sign.ensures.holds c.if-not-same_sign.false) c.in-Some.ensures
 
 pub returns-in-None : goal.returns-in-None
 returns-in-None c =
-    no_end c.args.book.now c.requires.sound_book.0 c.requires.sound_book.1 c.args.i c.args.j c.args.k c.requires.i_in_bounds.0 c.requires.i_in_bounds.1 _ _
+    no_end c.args.book.now c.requires.sound_book.0 c.requires.sound_book.1 c.args.i c.args.j c.args.k c.requires.i_in_bounds.0
+    c.requires.i_in_bounds.1 _ _
     c.left-left.ensures c.left.ensures _ c.parts.ensures c.in-None.ensures

@@ -40,7 +40,8 @@ returns-in_default c =
       kept = went_then st q su r sv c.truncate.new.self (went_read st q _ su r read)
           (went_then su r sv s sv c.truncate.new.self f.kept
           (went_cut sv s c.truncate.new.self 0 f.kept.sound c.truncate.ensures));
-      told = way_stop k h i roomy.book c.requires.i_in_bounds.0 _ _ _ e st q roomy c.requires.i_in_bounds.1 su r read c.args.from c.args.count
+      told = way_stop k h i roomy.book c.requires.i_in_bounds.0 _ _ _ e st q roomy c.requires.i_in_bounds.1 su r read c.args.from
+          c.args.count
           (held sv s 0) f.told;
     }
 
@@ -70,7 +71,8 @@ returns-then-is_held c =
     record {
       none = c.is_held.ensures.none;
       kept = went_then st q su r sw s2 (went_read st q _ su r read) (went_then su r sv s sw s2 f.kept c.is_held.ensures.kept);
-      told = way_shown k h i roomy.book c.requires.i_in_bounds.0 _ _ _ e st q roomy c.requires.i_in_bounds.1 su r read c.args.from c.args.count
+      told = way_shown k h i roomy.book c.requires.i_in_bounds.0 _ _ _ e st q roomy c.requires.i_in_bounds.1 su r read c.args.from
+          c.args.count
           (held sv s 0) c.in-Some.end f.told (same.holds c.if-is_held.true);
     }
 
@@ -88,6 +90,7 @@ returns-else-is_held c =
     record {
       none = c.is_held.ensures.none;
       kept = went_then st q su r sw s2 (went_read st q _ su r read) (went_then su r sv s sw s2 f.kept c.is_held.ensures.kept);
-      told = way_missed k h i roomy.book c.requires.i_in_bounds.0 _ _ _ e st q roomy c.requires.i_in_bounds.1 su r read c.args.from c.args.count
+      told = way_missed k h i roomy.book c.requires.i_in_bounds.0 _ _ _ e st q roomy c.requires.i_in_bounds.1 su r read c.args.from
+          c.args.count
           (held sv s 0) c.in-Some.end f.told (same.fails c.if-is_held.false);
     }

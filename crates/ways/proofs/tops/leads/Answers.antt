@@ -10,7 +10,11 @@ pub matches-requires : goal.matches-requires
 matches-requires c =
     let can = c.requires.0 in
     let pattern = left_pattern c.args.book.now c.args.store.now c.args.p c.args.q can c.args.i c.requires.1 _ _ _
-    c.equation-sides.ensures in record { sound = (can.sound, (can.left, (_, _, pattern))); at_len = (ap length c.new-bindings.ensures, λ x r k. absurd (unbound _ c.new-bindings.ensures x r k)) }
+    c.equation-sides.ensures in
+    record {
+      sound = (can.sound, (can.left, (_, _, pattern)));
+      at_len = (ap length c.new-bindings.ensures, λ x r k. absurd (unbound _ c.new-bindings.ensures x r k));
+    }
 
 pub returns-then-not-matches : goal.returns-then-not-matches
 returns-then-not-matches c =
