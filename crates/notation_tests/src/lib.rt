@@ -175,8 +175,11 @@ rules
     fn sums(rt: HostRuntime) -> Result<(), Fail> {
         let heap = rt.alloc();
         let book = read(heap, SUMS)?;
-        assert_eq!(rt; book.words.as_slice(), &SUMS_WORDS);
-        assert_eq!(rt; book.ways.as_slice(), &[1, 0, 1, 1, 1, 1, 1, 2, 0, 0, 0, 1]);
+        assert_eq!(rt; book.words.as_slice(), SUMS_WORDS.as_slice());
+        assert_eq!(rt;
+            book.ways.as_slice(),
+            [1, 0, 1, 1, 1, 1, 1, 2, 0, 0, 0, 1].as_slice()
+        );
         assert_eq!(rt;
             equation_text(heap, &book, 1)?.as_str(),
             "plus(next(x), y) = next(plus(x, y))"
