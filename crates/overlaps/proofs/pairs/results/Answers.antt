@@ -37,7 +37,7 @@ instance-second-requires c =
 
 pub returns : goal.returns
 returns c = results_built c.requires.sound_book.0 c.requires.sound_book.1.0 c.requires.sound_book.1.1 c.requires.sound.0
-c.requires.sound.1 c.parts.ensures
+    c.requires.sound.1 c.parts.ensures
     c.right.ensures c.instance-first.ensures c.shifted-renamed.ensures c.parts-2.ensures c.right-2.ensures
     c.instance-inner.ensures c.left.ensures c.with_hole-context.ensures c.bind_hole-filling.ensures c.parts-3.ensures
     c.instance-second.ensures
