@@ -1,5 +1,5 @@
 -- The words that say an answer, and how an answer is told from them.
-use Rattle.std.specs.Prelude.{ℕ, ◌^◌, ◌<◌, cond, ◌&&◌, List, ◌++◌, drop, codes, decimal, ◌==◌, slice_index}
+use Rattle.std.specs.Prelude.{ℕ, ◌^◌, ◌<◌, cond, List, ◌++◌, drop, codes, decimal, ◌==◌, slice_index}
 use Rattle.std.specs.Str.Parse.{digits_value}
 use Rattle.equal.specs.declared.types.Judged.{Judged}
 use Rattle.equal.specs.declared.types.Judged.TheVariants.{Settles, Up, Apart, Lost, Stray, NoBook, Room, Few}

@@ -8,7 +8,7 @@ use Rattle.engine.specs.Meeting.{Working, LeftIdle}
 use Rattle.equal.specs.declared.types.Judged.{Judged}
 use Rattle.equal.specs.declared.types.Judged.TheVariants.{Settles, Up, Apart, Lost, Stray, NoBook, Room, Few}
 use Rattle.equal.specs.declared.types.Told.{Told}
-use Rattle.equal.specs.declared.types.Told.TheVariants.{Unsettled, Unjudged}
+use Rattle.equal.specs.declared.types.Told.TheVariants.{Unsettled}
 use Rattle.equal.specs.Promises.{JudgedSays, TooFew, JudgedPost, ToldPost}
 use Rattle.equal.specs.Judging.{not_settled}
 use Rattle.equal.proofs.Excluding.{excludes}

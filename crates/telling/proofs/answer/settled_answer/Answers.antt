@@ -5,12 +5,12 @@ use Rattle.equal.proofs.Promised.{told_small, short, told_rows}
 use Rattle.telling.proofs.Answering.{still}
 use Rattle.telling.proofs.answer.settled_answer.Goals as goal
 
-pub returns-then-too-few : goal.returns-then-too-few
-returns-then-too-few c = record {
+pub returns-then-too_few : goal.returns-then-too_few
+returns-then-too_few c = record {
   idle = still c.args.settled.now.book c.args.store.now c.args.roots.now c.args.frames.now c.requires.working.0
       c.requires.working.1;
   told = told_small c.args.given.book.now c.args.given.ways.now c.args.one.now c.args.other.now
-      c.args.given.work (c.if-too-few.ensures.holds refl);
+      c.args.given.work (c.if-too_few.ensures.holds refl);
 }
 
 pub returns : goal.returns
@@ -21,7 +21,7 @@ returns c =
     let y = c.args.other.now in
     let w = c.args.given.work in
     let k = c.args.settled.now.book in
-    let enough = c.if-too-few.ensures.fails refl in
+    let enough = c.if-too_few.ensures.fails refl in
     let said = c.requires.settles in
     let same = c.requires.book in
     let sound = c.requires.working.0.book in

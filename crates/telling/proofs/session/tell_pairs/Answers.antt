@@ -6,9 +6,9 @@ use Rattle.equal.proofs.Sides.{ample_kept}
 use Rattle.equal.proofs.Stable.{stable_book}
 use Rattle.telling.proofs.session.tell_pairs.Goals as goal
 
-pub tell-refused-requires : goal.tell-refused-requires
-tell-refused-requires g c = (
-  judged_few c.args.book.now c.args.ways.now (length c.args.work.now) (c.if-too-few.ensures.holds refl),
+pub tell_refused-requires : goal.tell_refused-requires
+tell_refused-requires g c = (
+  judged_few c.args.book.now c.args.ways.now (length c.args.work.now) (c.if-too_few.ensures.holds refl),
   λ e. let z : ◌≡◌ {A = ℕ} 0 1 = cc in omega arith,
 )
 
@@ -17,17 +17,17 @@ new-requires g c =
     let s = c.args.book.now in
     let h = c.args.ways.now in
     let w = length c.args.work.now in
-    let room = room_for s h w c.in-Some.share c.in-Some.ensures.1 (c.if-too-few.ensures.fails refl) in
+    let room = room_for s h w c.in-Some.share c.in-Some.ensures.1 (c.if-too_few.ensures.fails refl) in
     (c.in-Settles.ensures (most_parts w) room).says
 
-pub tell-settled-requires : goal.tell-settled-requires
-tell-settled-requires g c =
+pub tell_settled-requires : goal.tell_settled-requires
+tell_settled-requires g c =
     let s = c.args.book.now in
     let h = c.args.ways.now in
     let w = length c.args.work.now in
     let share = c.in-Some.share in
     let fresh = c.in-Some.ensures.1 in
-    let found = c.in-Settles.ensures (most_parts w) (room_for s h w share fresh (c.if-too-few.ensures.fails refl)) in
+    let found = c.in-Settles.ensures (most_parts w) (room_for s h w share fresh (c.if-too_few.ensures.fails refl)) in
     let k = c.new.result in
     let same = c.new.ensures.book in
     let idle = found.idle refl k.book (stable_book k.book k.sound) same in
@@ -35,20 +35,20 @@ tell-settled-requires g c =
       settles = found.says;
       book = same;
       working = (idle.working, idle.none);
-      ample = ample_kept k.book share.store share.roots share.frames c.judge-in.new.store c.judge-in.new.roots
-          c.judge-in.new.frames idle (most_parts w) fresh.ample;
+      ample = ample_kept k.book share.store share.roots share.frames c.judge_in.new.store c.judge_in.new.roots
+          c.judge_in.new.frames idle (most_parts w) fresh.ample;
     }
 
-pub tell-refused-requires-in-default-judge-in : goal.tell-refused-requires-in-default-judge-in
-tell-refused-requires-in-default-judge-in g c =
+pub tell_refused-requires-in_default-judge_in : goal.tell_refused-requires-in_default-judge_in
+tell_refused-requires-in_default-judge_in g c =
     let s = c.args.book.now in
     let h = c.args.ways.now in
     let w = length c.args.work.now in
     let share = c.in-Some.share in
     let given = c.in-Some.ensures in
-    let enough = c.if-too-few.ensures.fails refl in (
-      judged_post s h w given.0 enough share.store share.roots share.frames c.judge-in.new.store
-          c.judge-in.new.roots c.judge-in.new.frames c.judge-in.result
-          (c.judge-in.ensures (most_parts w) (room_for s h w share given.1 enough)),
-      c.in-default-judge-in.not-Settles,
+    let enough = c.if-too_few.ensures.fails refl in (
+      judged_post s h w given.0 enough share.store share.roots share.frames c.judge_in.new.store
+          c.judge_in.new.roots c.judge_in.new.frames c.judge_in.result
+          (c.judge_in.ensures (most_parts w) (room_for s h w share given.1 enough)),
+      c.in_default-judge_in.not-Settles,
     )
