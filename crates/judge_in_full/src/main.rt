@@ -7,8 +7,9 @@ use equal::{Judged, judge};
 use inputs::{Source, Stopped, complain, read_source};
 use std::alloc::AllocError;
 use std::env;
+use std::process::ExitCode;
 
-const HELP: &str = "Usage: judge [--rows] [--work N] [FILE]
+const HELP: &str = "Usage: judge_in_full [--rows] [--work N] [FILE]
 Judges the book of equations and rules in FILE, or on the standard input where there is none or it is `-`.
   --rows      the book is given by its row and that of its ways, each a line of decimal words
   --work N    lend N work words, of 4 bytes, to the judge: at most, and if not said, 851968
@@ -37,22 +38,30 @@ fn judge_file(rt: &HostRuntime, options: Options<'_>) -> Result<(), Stopped> {
             print_answer(rt, &source, answer)
         }
         Err(trouble) => {
-            complain(rt, "judge", options.book, trouble)?;
+            complain(rt, "judge_in_full", options.book, trouble)?;
             Err(Stopped)
         }
     }
 }
 
-fn main(rt: HostRuntime) -> Result<(), Stopped> {
-    let arguments: Vec<String> = env::args(&rt)?.skip(1).collect(rt.alloc())?;
+fn run(rt: &HostRuntime) -> Result<(), Stopped> {
+    let arguments: Vec<String> = env::args(rt)?.skip(1).collect(rt.alloc())?;
     match read_arguments(Program::Judge, arguments.as_slice()) {
         Ok(Asked::Help) => println!(rt; "{HELP}")?,
-        Ok(Asked::Version) => println!(rt; "judge 0.1.0")?,
-        Ok(Asked::Run(options)) => judge_file(&rt, options)?,
+        Ok(Asked::Version) => println!(rt; "judge_in_full 0.1.0")?,
+        Ok(Asked::Run(options)) => judge_file(rt, options)?,
         Err(refusal) => {
-            eprintln!(rt; "judge: {refusal}")?;
+            eprintln!(rt; "judge_in_full: {refusal}")?;
             return Err(Stopped);
         }
     }
     Ok(())
+}
+
+// An error of `main` would be told once more, and so it gives the status alone.
+fn main(rt: HostRuntime) -> ExitCode {
+    match run(&rt) {
+        Ok(()) => ExitCode::SUCCESS,
+        Err(Stopped) => ExitCode::FAILURE,
+    }
 }

@@ -1,11 +1,12 @@
 // Compares pairs of terms by a book that settles its equations.
 #![tactic(auto)]
 
-use inputs::{Source, Stopped, complain, name_of, read_source};
 use arguments::{Asked, Options, Program, is_stdin, read_arguments};
+use inputs::{Source, Stopped, complain, name_of, read_source};
 use std::env;
 use std::fs::File;
 use std::io::Read;
+use std::process::ExitCode;
 use telling::{Asking, tell_pairs};
 
 const HELP: &str = "Usage: tell [--rows] [--work N] BOOK [PAIRS]
@@ -67,16 +68,24 @@ fn tell(rt: &HostRuntime, options: Options<'_>) -> Result<(), Stopped> {
     }
 }
 
-fn main(rt: HostRuntime) -> Result<(), Stopped> {
-    let arguments: Vec<String> = env::args(&rt)?.skip(1).collect(rt.alloc())?;
+fn run(rt: &HostRuntime) -> Result<(), Stopped> {
+    let arguments: Vec<String> = env::args(rt)?.skip(1).collect(rt.alloc())?;
     match read_arguments(Program::Tell, arguments.as_slice()) {
         Ok(Asked::Help) => println!(rt; "{HELP}")?,
         Ok(Asked::Version) => println!(rt; "tell 0.1.0")?,
-        Ok(Asked::Run(options)) => tell(&rt, options)?,
+        Ok(Asked::Run(options)) => tell(rt, options)?,
         Err(refusal) => {
             eprintln!(rt; "tell: {refusal}")?;
             return Err(Stopped);
         }
     }
     Ok(())
+}
+
+// An error of `main` would be told once more, and so it gives the status alone.
+fn main(rt: HostRuntime) -> ExitCode {
+    match run(&rt) {
+        Ok(()) => ExitCode::SUCCESS,
+        Err(Stopped) => ExitCode::FAILURE,
+    }
 }
