@@ -5,7 +5,7 @@
 set -eu
 cd "$(dirname "$0")"
 . ./toolchain.sh
-program=judge
+program=judge_in_full
 if [ "${1:-}" = tell ]; then
     program=tell
     shift
@@ -14,8 +14,8 @@ elif [ $# -eq 0 ]; then
 fi
 log=$(mktemp)
 trap 'rm -f "$log"' EXIT
-rt check "$program" >"$log" 2>&1 || {
+(cd "crates/$program" && rt run -- --version) >"$log" 2>&1 || {
     cat "$log" >&2
     exit 1
 }
-"target/bin/$program" "$@"
+"crates/$program/out/$program" "$@"

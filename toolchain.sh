@@ -1,5 +1,5 @@
 # Sourced by the scripts: looks for the Rattle toolchain, and says so if it is another than the one that the proofs were made with.
-kit='rattle-kit-8b logic 7f726aa041520687'
+kit='rattle-kit-13f logic dac8208d650f15bf'
 command -v rt >/dev/null || {
     echo "The Rattle toolchain's command rt is not on the PATH. Install $kit." >&2
     exit 1

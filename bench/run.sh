@@ -7,10 +7,10 @@ cd "$(dirname "$0")/.."
 log=$(mktemp)
 trap 'rm -f "$log"' EXIT
 command -v maude >/dev/null || { apt-get update && apt-get install -y maude; } >"$log" 2>&1 || echo "Maude can't be installed here." >&2
-rt staticlib calls >"$log" 2>&1 || {
+(cd crates/calls && rt lib) >"$log" 2>&1 || {
     cat "$log" >&2
     exit 1
 }
 mkdir -p target/bench
-${CC:-cc} -O2 -o target/bench/call bench/call.c target/staticlib/libcalls.a
+${CC:-cc} -O2 -o target/bench/call bench/call.c crates/calls/out/libcalls.a
 python3 bench/run.py target/bench/call target/bench "$@"
