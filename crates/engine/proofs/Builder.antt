@@ -22,7 +22,7 @@ use Rattle.store.proofs.Reading.{symbols}
 use Rattle.engine.specs.declared.types.Built.{Built}
 use Rattle.engine.specs.declared.types.Bindings.{Bindings}
 use Rattle.engine.specs.Matching.{bound, put_in, AllInside, Bound, stacked, PlacesInside}
-use Rattle.engine.specs.Building.{PutOn, Taken, Fillable, Buildable, SignsAdded, SymbolBuilt, InstanceBuilt}
+use Rattle.engine.specs.Building.{PutOn, Taken, Fillable, Buildable, SignsAdded, SymbolBuilt, RowInstanceBuilt}
 use Rattle.engine.proofs.Pendings.{zero_place}
 use Rattle.engine.proofs.Builts.{stacked_count, inside_grown, on_top, on_inside, taken_inside, sign_on_top, put_in_bound, put_in_grown}
 
@@ -201,7 +201,7 @@ module _ (ps ws : List ℕ) (few : FewParts ps) (t : Term) (a : Store) (b : Bind
     terms = (turn n st q p l s).next su r d;
   }
 
-  pub built_all : (st : Store) (q : Built) → SoBuilt t a b 0 st q → InstanceBuilt a b t st (get_or q.places 0 zero_place)
+  pub built_all : (st : Store) (q : Built) → SoBuilt t a b 0 st q → RowInstanceBuilt a b t st (get_or q.places 0 zero_place)
   built_all st q s =
       let c : q.len ≡ 1 = omega (arith, stacked_count st q.places q.len, ap count s.terms) in
       let e : stacked st q.places 1 ≡ and1 (put (put_in a b) t) none1 = ap (stacked st q.places) (sym c) ∙ s.terms in

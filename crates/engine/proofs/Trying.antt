@@ -14,7 +14,8 @@ use Rattle.store.specs.declared.types.Place.{Place}
 use Rattle.store.specs.Stores.{term_in}
 use Rattle.books.specs.declared.row.Book.{Book}
 use Rattle.engine.specs.declared.types.Bindings.{Bindings}
-use Rattle.books.specs.Books.{told, blank, rule_in, RuleAt}
+use Rattle.books.specs.Reading.{TermAt}
+use Rattle.books.specs.Books.{told, blank, rule_in, RuleAt, SoundBook}
 use Rattle.engine.specs.Matching.{put_in, Instance, Pattern}
 use Rattle.engine.specs.Building.{AllBound, Fillable, InstanceBuilt}
 use Rattle.engine.specs.Rewriting.{Rewritable, TopSign, ByRule}
@@ -41,6 +42,29 @@ pub record SignTold (ws : List ℕ) (a : ℕ) (l : Term) : Type 0 where
   pub within : a + 2 ≤ length ws
   pub is : l ≡ sign (get_or ws (a + 1) 0) parts
 
+-- a rule's sides in the words: the left one is a pattern, and the right one can be built from its row
+module _ (k : Book) (sound : SoundBook k) (i : ℕ) (low : i < length (told k).rules) where
+  pub left_pattern : (a z : ℕ) (st : Store) (p : Place) → TermAt k.words.now a z (rule_in k i).left →
+      Fits (told k).parts (term_in st p.0) → Pattern (told k).parts k.words.now a z (rule_in k i).left st p
+  left_pattern a z st p w f =
+      let sides = rule_sides k sound i low in
+      record { over = sides.left; at = w; short = sides.left_size; fits = f }
+
+  pub right_fillable : (ps ws : List ℕ) (b : Bindings) → ps ≡ (told k).parts → ws ≡ row (rule_in k i).right →
+      AllBound b (rule_in k i).right → Fillable ps ws b (rule_in k i).right
+  right_fillable ps ws b e w m =
+      let sides = rule_sides k sound i low in
+      record {
+        row = record {
+          written = sym w;
+          fits = subst (λ (qs : List ℕ). Fits qs (rule_in k i).right) (sym e)
+              (over_fits (told k).parts SmallLetter (rule_in k i).right sides.right);
+        };
+        small = sides.right_size;
+        low = λ x h. let l = over_letters (told k).parts SmallLetter (rule_in k i).right sides.right x h in omega arith;
+        bound = m;
+      }
+
 module _ (k : Book) (st : Store) (p : Place) (can : Rewritable k st p) where
   module _ (i : ℕ) (low : i < length (told k).rules) where
     goes_down : Greater (rank (told k).ranks) (rule_in k i).left (rule_in k i).right
@@ -53,11 +77,6 @@ module _ (k : Book) (st : Store) (p : Place) (can : Rewritable k st p) where
         let w : drop a ws ≡ 1 ∷ g ∷ (rows ts ++ drop m ws) = r.left.written ∙ ap (λ (t : Term). row t ++ drop m ws) e in
         let h = first_words ws a 1 g (rows ts ++ drop m ws) w in
         record { parts = ts; within = h.0; is = e ∙ ap (λ (f : ℕ). sign f ts) (sym h.2) }
-
-    pub left_pattern : (a m z : ℕ) → RuleAt k i a m z → Pattern (told k).parts k.words.now a m (rule_in k i).left st p
-    left_pattern a m z r =
-        let sides = rule_sides k can.book i low in
-        record { over = sides.left; at = r.left; short = sides.left_size; fits = can.fits }
 
     -- with another sign at the top it does not match
     pub other_sign : (a m z f : ℕ) → RuleAt k i a m z → (get_or k.words.now (a + 1) 0 ≡ f → ⊥) → TopSign st p f →
@@ -77,22 +96,6 @@ module _ (k : Book) (st : Store) (p : Place) (can : Rewritable k st p) where
     -- the letters of the right side are bound with those of the left
     pub right_bound : (b : Bindings) → Instance st b (rule_in k i).left (term_in st p.0) → AllBound b (rule_in k i).right
     right_bound b m x h = m.letters x (greater_letters (rank (told k).ranks) goes_down x h)
-
-    -- so the right side can be built from its row
-    pub right_fillable : (ps ws : List ℕ) (b : Bindings) → ps ≡ (told k).parts → ws ≡ row (rule_in k i).right →
-        Instance st b (rule_in k i).left (term_in st p.0) → Fillable ps ws b (rule_in k i).right
-    right_fillable ps ws b e w m =
-        let sides = rule_sides k can.book i low in
-        record {
-          row = record {
-            written = sym w;
-            fits = subst (λ (qs : List ℕ). Fits qs (rule_in k i).right) (sym e)
-                (over_fits (told k).parts SmallLetter (rule_in k i).right sides.right);
-          };
-          small = sides.right_size;
-          low = λ x h. let l = over_letters (told k).parts SmallLetter (rule_in k i).right sides.right x h in omega arith;
-          bound = right_bound b m;
-        }
 
     pub by_this_rule : (b : Bindings) (su : Store) (q : Place) → Instance st b (rule_in k i).left (term_in st p.0) →
         InstanceBuilt st b (rule_in k i).right su q → ByRule (told k).rules (term_in st p.0) su q

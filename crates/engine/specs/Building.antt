@@ -62,11 +62,19 @@ pub record SymbolBuilt (ps : List ℕ) (tag num : ℕ) (b : Bindings) (st : Stor
   pub sign : (tag ≢ 0) → (vs us : Terms) → count vs ≡ slice_index ps num →
       stacked st q.places q.len ≡ glue vs us → stacked su r.places r.len ≡ and1 (sign1 num vs) us
 
--- the place of a term with what is bound put for its letters
-pub record InstanceBuilt (st : Store) (b : Bindings) (t : Term) (su : Store) (p : Place) : Type 0 where
+-- the place of a term that is built from its row, with what is bound put for its letters
+pub record RowInstanceBuilt (st : Store) (b : Bindings) (t : Term) (su : Store) (p : Place) : Type 0 where
   pub sound : Sound su
   pub grown : Grown st su
   pub few : su.count ≤ st.count + size t
   pub signs : SignsAdded st su
+  pub inside : p.0 < su.count
+  pub is : term_in su p.0 ≡ put (put_in st b) t
+
+-- the place of a term with what is bound put for its letters
+pub record InstanceBuilt (st : Store) (b : Bindings) (t : Term) (su : Store) (p : Place) : Type 0 where
+  pub sound : Sound su
+  pub grown : Grown st su
+  pub few : su.count ≤ st.count + 32
   pub inside : p.0 < su.count
   pub is : term_in su p.0 ≡ put (put_in st b) t

@@ -32,7 +32,7 @@ fn match_rule(
         return false;
     }
     *bindings = Bindings::new();
-    matches(book.words, sides.left, sides.right, store, p, bindings)
+    matches(book, i, sides.left, sides.right, store, p, bindings)
 }
 
 // The first rule whose left side matches the term at p, with what is put for its letters.
@@ -60,5 +60,6 @@ pub fn rewrite(book: &Book, store: &mut Store, p: Place) -> Option<Place>
     let Some(i) = find_rule(book, store, p, &mut bindings) else {
         return None;
     };
-    Some(instance(book.parts(), book.right(i), &bindings, store))
+    let sides = book.rule(i);
+    Some(instance(book, i, sides.right, sides.end, &bindings, store))
 }

@@ -22,7 +22,7 @@ use Rattle.store.proofs.Cases.{le_or_lt}
 use Rattle.store.proofs.Placing.{grown_then}
 use Rattle.engine.specs.declared.types.Bindings.{Bindings}
 use Rattle.engine.specs.Matching.{put_in, AllInside, Bound}
-use Rattle.engine.specs.Building.{Fillable, InstanceBuilt}
+use Rattle.engine.specs.Building.{Fillable, RowInstanceBuilt}
 use Rattle.engine.specs.Running.{Honest}
 use Rattle.engine.specs.Meeting.{Working}
 use Rattle.engine.proofs.Builder.{signs_then}
@@ -145,9 +145,9 @@ module _ {b : Book} {o : Overlap} {st a0 a1 : Store} {ls : Bindings} {ps ws : Li
   )
 
   module _ {a2 : Store} {part : Place} {rs : Bindings} {qs vs : List ℕ}
-      (built : (t : Term) → Fillable ps (take (o.to - o.from) (drop o.from ws)) ls t → InstanceBuilt a1 ls t a2 part)
+      (built : (t : Term) → Fillable ps (take (o.to - o.from) (drop o.from ws)) ls t → RowInstanceBuilt a1 ls t a2 part)
       (sh : Shifted ls rs) (eq : qs ≡ (told b).parts) (ev : vs ≡ row (rule_in b o.inner).left) where
-    one : InstanceBuilt a1 ls stands.part a2 part
+    one : RowInstanceBuilt a1 ls stands.part a2 part
     one = built stands.part (part_of stands.part stands.place stands.at)
 
     one_small : size stands.part ≤ 32
@@ -165,8 +165,8 @@ module _ {b : Book} {o : Overlap} {st a0 a1 : Store} {ls : Bindings} {ps ws : Li
     pub other_fills : CanFill qs vs rs a2
     other_fills = ((few_parts b sound qs eq, ((rule_in b o.inner).left, other_fillable)), (one.sound, (part_space, renamed_inside)))
 
-    module _ {a3 : Store} {other : Place} (built2 : (t : Term) → Fillable qs vs rs t → InstanceBuilt a2 rs t a3 other) where
-      second : InstanceBuilt a2 rs (rule_in b o.inner).left a3 other
+    module _ {a3 : Store} {other : Place} (built2 : (t : Term) → Fillable qs vs rs t → RowInstanceBuilt a2 rs t a3 other) where
+      second : RowInstanceBuilt a2 rs (rule_in b o.inner).left a3 other
       second = built2 (rule_in b o.inner).left other_fillable
 
       grown3 : Grown a1 a3
@@ -223,9 +223,9 @@ module _ {b : Book} {o : Overlap} {st : Store} {u : Bindings} {ps ws : List ℕ}
   outer_fills = ((few_parts b sound ps ep, ((rule_in b o.outer).right, outer_fillable)), (sound0, (omega arith, given.inside)))
 
   module _ {a1 : Store} {one : Place} {us : Bindings} {qs vs : List ℕ}
-      (built : (t : Term) → Fillable ps ws u t → InstanceBuilt st u t a1 one)
+      (built : (t : Term) → Fillable ps ws u t → RowInstanceBuilt st u t a1 one)
       (sh : Shifted u us) (eq : qs ≡ (told b).parts) (ev : vs ≡ row (rule_in b o.inner).right) where
-    first : InstanceBuilt st u (rule_in b o.outer).right a1 one
+    first : RowInstanceBuilt st u (rule_in b o.outer).right a1 one
     first = built (rule_in b o.outer).right outer_fillable
 
     first_space : a1.count + 64 ≤ a1.limit
@@ -244,9 +244,9 @@ module _ {b : Book} {o : Overlap} {st : Store} {u : Bindings} {ps ws : List ℕ}
     )
 
     module _ {a2 : Store} {inner : Place} {uh : Bindings} {r : Row} {hs xs : List ℕ}
-        (built2 : (t : Term) → Fillable qs vs us t → InstanceBuilt a1 us t a2 inner) (ex : xs ≡ row (rule_in b o.outer).left)
+        (built2 : (t : Term) → Fillable qs vs us t → RowInstanceBuilt a1 us t a2 inner) (ex : xs ≡ row (rule_in b o.outer).left)
         (hole : WithHole xs o.from o.to r) (hb : HoleBound u inner uh) (eh : hs ≡ (told b).parts) where
-      middle : InstanceBuilt a1 us (rule_in b o.inner).right a2 inner
+      middle : RowInstanceBuilt a1 us (rule_in b o.inner).right a2 inner
       middle = built2 (rule_in b o.inner).right inner_fillable
 
       grown2 : Grown st a2
@@ -273,7 +273,7 @@ module _ {b : Book} {o : Overlap} {st : Store} {u : Bindings} {ps ws : List ℕ}
       )
 
       pub results_built : {a3 : Store} {two : Place} →
-          ((t : Term) → Fillable hs (take r.len r.words) uh t → InstanceBuilt a2 uh t a3 two) →
+          ((t : Term) → Fillable hs (take r.len r.words) uh t → RowInstanceBuilt a2 uh t a3 two) →
           ResultsBuilt b o st u a3 (record { first = one; second = two })
       results_built {a3} {two} built3 =
           let l = built3 _ (context_of stands.part stands.place stands.at) in

@@ -13,7 +13,7 @@ use crate::letters::{all_letters, bind_hole, shifted};
 use crate::overlap::with_hole;
 use crate::types::{Overlap, Pair};
 use books::Book;
-use engine::instance::instance;
+use engine::instance::row_instance;
 use engine::types::Bindings;
 use store::Store;
 use unification::unify;
@@ -28,9 +28,9 @@ fn unifier(book: &Book, overlap: Overlap, store: &mut Store) -> Option<Bindings>
     let from = overlap.from;
     let to = overlap.to;
     let left = book.left(overlap.outer);
-    let part = instance(book.parts(), &left[from..to], &letters, store);
+    let part = row_instance(book.parts(), &left[from..to], &letters, store);
     let renamed = shifted(&letters);
-    let other = instance(book.parts(), book.left(overlap.inner), &renamed, store);
+    let other = row_instance(book.parts(), book.left(overlap.inner), &renamed, store);
     unify(store, &letters, part, other)
 }
 
@@ -40,13 +40,13 @@ fn results(book: &Book, overlap: Overlap, unifier: &Bindings, store: &mut Store)
     requires sound { (Sound store.old) × (store.old.count + 96 ≤ store.old.limit) }
     ensures { ResultsBuilt book.now overlap store.old unifier.now store.new result }
 {
-    let first = instance(book.parts(), book.right(overlap.outer), unifier, store);
+    let first = row_instance(book.parts(), book.right(overlap.outer), unifier, store);
     let renamed = shifted(unifier);
-    let inner = instance(book.parts(), book.right(overlap.inner), &renamed, store);
+    let inner = row_instance(book.parts(), book.right(overlap.inner), &renamed, store);
     let context = with_hole(book.left(overlap.outer), overlap.from, overlap.to);
     let len = context.len;
     let filling = bind_hole(unifier, inner);
-    let second = instance(book.parts(), &context.words[..len], &filling, store);
+    let second = row_instance(book.parts(), &context.words[..len], &filling, store);
     Pair { first, second }
 }
 

@@ -8,7 +8,7 @@ ghost use Rattle.ways.specs.Steps.{Comparable, Equated};
 ghost use Rattle.ways.specs.Steps.{SidesAre};
 
 use books::Book;
-use engine::matching::matches;
+use engine::matching::match_pattern;
 use engine::types::Bindings;
 use store::{Place, Store};
 
@@ -20,10 +20,10 @@ fn leads(book: &Book, i: usize, store: &Store, p: Place, q: Place) -> bool
 {
     let sides = book.equation(i);
     let mut bindings = Bindings::new();
-    if !matches(book.words, sides.left, sides.right, store, p, &mut bindings) {
+    if !match_pattern(book.words, sides.left, sides.right, store, p, &mut bindings) {
         return false;
     }
-    matches(book.words, sides.right, sides.end, store, q, &mut bindings)
+    match_pattern(book.words, sides.right, sides.end, store, q, &mut bindings)
 }
 
 // Whether an equation leads from the term at p to that at q at the top, either way round.

@@ -1,37 +1,36 @@
--- From no symbol to the whole term.
-use Rattle.std.proofs.Common.{◌≡◌, ℕ, subst, arith}
-use Rattle.engine.proofs.Builder.{SoBuilt, none_built, symbols_built, turn, built_more, built_all}
+-- The words from one place up to the other are the right side's row.
+use Rattle.std.proofs.Common.{sym, ◌∙◌, arith}
+use Rattle.books.proofs.Bookish.{side_cut}
+use Rattle.books.proofs.Building.{book_parts}
+use Rattle.books.proofs.Heads.{head_of}
+use Rattle.books.specs.Books.{told}
+use Rattle.engine.proofs.Trying.{right_fillable}
 use Rattle.engine.proofs.instance.instance.Goals as goal
 
-pub loop-k-init : goal.loop-k-init
-loop-k-init c t f =
-    none_built t c.args.store.now c.args.bindings.now _ c.new-built.result c.requires.sound.0
-    (omega (
-      arith,
-      symbols_built c.args.parts.now c.args.row.now c.requires.few_parts.0 t c.args.store.now c.args.bindings.now f
-          c.requires.sound.1.1,
-    ))
-    c.new-built.ensures
-
-pub build_symbol-requires : goal.build_symbol-requires
-build_symbol-requires c =
-    let ps = c.args.parts.now in let ws = c.args.row.now in let a = c.args.store.now in let b = c.args.bindings.now in
-    let t = c.requires.few_parts.1.0 in let f = c.requires.few_parts.1.1 in
-    let s = c.loop-k.invariant t f in
-    let y = turn ps ws c.requires.few_parts.0 t a b f c.requires.sound.1.1 c.loop-k.k c.loop-k.store c.loop-k.built (omega arith)
-    (omega (arith, symbols_built ps ws c.requires.few_parts.0 t a b f c.requires.sound.1.1)) s in
-    record { sound = (s.sound, omega (arith, s.few, s.grown.limit, f.small, c.requires.sound.1.0)); buildable = y.can }
-
-pub loop-k-preserved : goal.loop-k-preserved
-loop-k-preserved c t f =
-    let ps = c.args.parts.now in let ws = c.args.row.now in let a = c.args.store.now in let b = c.args.bindings.now in
-    built_more ps ws c.requires.few_parts.0 t a b f c.requires.sound.1.1 c.loop-k.k c.loop-k.store c.loop-k.built (omega arith)
-    (omega (arith, symbols_built ps ws c.requires.few_parts.0 t a b f c.requires.sound.1.1)) (c.loop-k.invariant t f)
-    c.build_symbol.new.store c.build_symbol.new.built c.build_symbol.ensures
+pub row_instance-requires : goal.row_instance-requires
+row_instance-requires c =
+    let k = c.args.book.now in
+    let sound = c.requires.sound_book.0 in
+    let f = right_fillable k sound c.args.i c.requires.sound_book.1 _ _ c.args.bindings.now c.parts.ensures
+    (side_cut k.words.now c.args.from c.args.to _ c.requires.term_at) c.requires.all_bound.0 in
+    record {
+      few_parts = (
+        book_parts k.words.now (told k) sound.reads _ (c.parts.ensures ∙ sym (head_of k.words.now (told k) sound.reads).parts),
+        (_, f),
+      );
+      sound = (c.requires.sound.0, (c.requires.sound.1, c.requires.all_bound.1));
+    }
 
 pub returns : goal.returns
-returns c t f =
-    let ps = c.args.parts.now in let ws = c.args.row.now in let a = c.args.store.now in let b = c.args.bindings.now in
-    let z : c.loop-k.k ≡ 0 = omega arith in
-    built_all ps ws c.requires.few_parts.0 t a b f c.requires.sound.1.1 c.loop-k.store c.loop-k.built
-    (subst (λ (n : ℕ). SoBuilt t a b n c.loop-k.store c.loop-k.built) z (c.loop-k.invariant t f))
+returns c =
+    let k = c.args.book.now in
+    let f = right_fillable k c.requires.sound_book.0 c.args.i c.requires.sound_book.1 _ _ c.args.bindings.now c.parts.ensures
+    (side_cut k.words.now c.args.from c.args.to _ c.requires.term_at) c.requires.all_bound.0 in
+    let made = c.row_instance.ensures _ f in
+    record {
+      sound = made.sound;
+      grown = made.grown;
+      few = omega (arith, made.few, f.small);
+      inside = made.inside;
+      is = made.is;
+    }

@@ -4,16 +4,16 @@ use Rattle.overlaps.proofs.Overlapping.{side_short}
 use Rattle.overlaps.proofs.Pairing.{outer_fills, inner_fills, context_fills, results_built}
 use Rattle.overlaps.proofs.pairs.results.Goals as goal
 
-pub instance-first-requires : goal.instance-first-requires
-instance-first-requires c =
+pub row_instance-first-requires : goal.row_instance-first-requires
+row_instance-first-requires c =
     let h = outer_fills c.requires.sound_book.0 c.requires.sound_book.1.0 c.requires.sound_book.1.1 c.requires.sound.0 c.requires.sound.1
     c.parts.ensures c.right.ensures in
     record { few_parts = h.0; sound = h.1 }
 
-pub instance-inner-requires : goal.instance-inner-requires
-instance-inner-requires c =
+pub row_instance-inner-requires : goal.row_instance-inner-requires
+row_instance-inner-requires c =
     let h = inner_fills c.requires.sound_book.0 c.requires.sound_book.1.0 c.requires.sound_book.1.1 c.requires.sound.0 c.requires.sound.1
-    c.parts.ensures c.right.ensures c.instance-first.ensures c.shifted-renamed.ensures c.parts-2.ensures
+    c.parts.ensures c.right.ensures c.row_instance-first.ensures c.shifted-renamed.ensures c.parts-2.ensures
     c.right-2.ensures in
     record { few_parts = h.0; sound = h.1 }
 
@@ -27,17 +27,17 @@ with_hole-context-requires c =
       ),
     )
 
-pub instance-second-requires : goal.instance-second-requires
-instance-second-requires c =
+pub row_instance-second-requires : goal.row_instance-second-requires
+row_instance-second-requires c =
     let h = context_fills c.requires.sound_book.0 c.requires.sound_book.1.0 c.requires.sound_book.1.1 c.requires.sound.0 c.requires.sound.1
-    c.parts.ensures c.right.ensures c.instance-first.ensures c.shifted-renamed.ensures c.parts-2.ensures
+    c.parts.ensures c.right.ensures c.row_instance-first.ensures c.shifted-renamed.ensures c.parts-2.ensures
     c.right-2.ensures
-    c.instance-inner.ensures c.left.ensures c.with_hole-context.ensures c.bind_hole-filling.ensures c.parts-3.ensures in
+    c.row_instance-inner.ensures c.left.ensures c.with_hole-context.ensures c.bind_hole-filling.ensures c.parts-3.ensures in
     record { few_parts = h.0; sound = h.1 }
 
 pub returns : goal.returns
 returns c = results_built c.requires.sound_book.0 c.requires.sound_book.1.0 c.requires.sound_book.1.1 c.requires.sound.0
     c.requires.sound.1 c.parts.ensures
-    c.right.ensures c.instance-first.ensures c.shifted-renamed.ensures c.parts-2.ensures c.right-2.ensures
-    c.instance-inner.ensures c.left.ensures c.with_hole-context.ensures c.bind_hole-filling.ensures c.parts-3.ensures
-    c.instance-second.ensures
+    c.right.ensures c.row_instance-first.ensures c.shifted-renamed.ensures c.parts-2.ensures c.right-2.ensures
+    c.row_instance-inner.ensures c.left.ensures c.with_hole-context.ensures c.bind_hole-filling.ensures c.parts-3.ensures
+    c.row_instance-second.ensures

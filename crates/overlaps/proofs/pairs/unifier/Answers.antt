@@ -15,30 +15,30 @@ offset_bounds-left-from c =
       side_short c.args.book.now c.requires.0 _ s.outer _ c.left-left.ensures,
     )
 
-pub slice_bounds-instance-end : goal.slice_bounds-instance-end
-slice_bounds-instance-end c = let s = c.requires.1.0 in omega (arith, at_within s.place _ c.left-left.ensures _ _ s.at)
+pub slice_bounds-row_instance-end : goal.slice_bounds-row_instance-end
+slice_bounds-row_instance-end c = let s = c.requires.1.0 in omega (arith, at_within s.place _ c.left-left.ensures _ _ s.at)
 
-pub instance-part-requires : goal.instance-part-requires
-instance-part-requires c =
+pub row_instance-part-requires : goal.row_instance-part-requires
+row_instance-part-requires c =
     let h = part_fills c.requires.0 c.requires.1.0 c.clear.ensures c.requires.1.1.1
     c.all_letters-letters.ensures c.parts.ensures c.left-left.ensures in
     record { few_parts = h.0; sound = h.1 }
 
-pub instance-other-requires : goal.instance-other-requires
-instance-other-requires c =
+pub row_instance-other-requires : goal.row_instance-other-requires
+row_instance-other-requires c =
     let h = other_fills c.requires.0 c.requires.1.0 c.clear.ensures c.requires.1.1.1
-    c.all_letters-letters.ensures c.parts.ensures c.left-left.ensures c.instance-part.ensures
+    c.all_letters-letters.ensures c.parts.ensures c.left-left.ensures c.row_instance-part.ensures
     c.shifted-renamed.ensures c.parts-2.ensures c.left.ensures in
     record { few_parts = h.0; sound = h.1 }
 
 pub unify-requires : goal.unify-requires
 unify-requires c = unifies c.requires.0 c.requires.1.0 c.clear.ensures c.requires.1.1.1 c.all_letters-letters.ensures
-    c.parts.ensures c.left-left.ensures c.instance-part.ensures c.shifted-renamed.ensures c.parts-2.ensures
+    c.parts.ensures c.left-left.ensures c.row_instance-part.ensures c.shifted-renamed.ensures c.parts-2.ensures
     c.left.ensures
-    c.instance-other.ensures
+    c.row_instance-other.ensures
 
 pub returns : goal.returns
 returns c = found c.requires.0 c.requires.1.0 c.clear.ensures c.requires.1.1.1 c.all_letters-letters.ensures c.parts.ensures
-    c.left-left.ensures c.instance-part.ensures c.shifted-renamed.ensures c.parts-2.ensures c.left.ensures
-    c.instance-other.ensures c.unify.ensures.sound c.unify.ensures.grown c.unify.ensures.few
+    c.left-left.ensures c.row_instance-part.ensures c.shifted-renamed.ensures c.parts-2.ensures c.left.ensures
+    c.row_instance-other.ensures c.unify.ensures.sound c.unify.ensures.grown c.unify.ensures.few
     c.unify.ensures.unified

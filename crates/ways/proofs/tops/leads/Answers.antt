@@ -6,8 +6,8 @@ use Rattle.engine.proofs.Matcher.{unbound}
 use Rattle.ways.proofs.Topping.{left_pattern, right_pattern, left_fails, both_matched}
 use Rattle.ways.proofs.tops.leads.Goals as goal
 
-pub matches-requires : goal.matches-requires
-matches-requires c =
+pub match_pattern-requires : goal.match_pattern-requires
+match_pattern-requires c =
     let can = c.requires.0 in
     let pattern = left_pattern c.args.book.now c.args.store.now c.args.p c.args.q can c.args.i c.requires.1 _ _ _
     c.equation-sides.ensures in
@@ -16,17 +16,17 @@ matches-requires c =
       at_len = (ap length c.new-bindings.ensures, λ x r k. absurd (unbound _ c.new-bindings.ensures x r k));
     }
 
-pub returns-then-not-matches : goal.returns-then-not-matches
-returns-then-not-matches c =
+pub returns-then-not-match_pattern : goal.returns-then-not-match_pattern
+returns-then-not-match_pattern c =
     left_fails c.args.store.now (equation_in c.args.book.now c.args.i) (term_in c.args.store.now c.args.p.0)
-    (term_in c.args.store.now c.args.q.0) c.new-bindings.result c.matches.new.bindings c.new-bindings.ensures
-    (c.if-not-matches.ensures _ _ (left_pattern c.args.book.now c.args.store.now c.args.p c.args.q c.requires.0
+    (term_in c.args.store.now c.args.q.0) c.new-bindings.result c.match_pattern.new.bindings c.new-bindings.ensures
+    (c.if-not-match_pattern.ensures _ _ (left_pattern c.args.book.now c.args.store.now c.args.p c.args.q c.requires.0
     c.args.i c.requires.1 _ _ _ c.equation-sides.ensures))
 
-pub matches-requires-2 : goal.matches-requires-2
-matches-requires-2 c =
+pub match_pattern-requires-2 : goal.match_pattern-requires-2
+match_pattern-requires-2 c =
     let can = c.requires.0 in
-    let left = c.if-not-matches.ensures _ _ (left_pattern c.args.book.now c.args.store.now c.args.p c.args.q can
+    let left = c.if-not-match_pattern.ensures _ _ (left_pattern c.args.book.now c.args.store.now c.args.p c.args.q can
     c.args.i c.requires.1 _ _ _ c.equation-sides.ensures) in
     let pattern = right_pattern c.args.book.now c.args.store.now c.args.p c.args.q can c.args.i c.requires.1 _ _ _
     c.equation-sides.ensures in
@@ -36,9 +36,9 @@ pub returns : goal.returns
 returns c =
     let can = c.requires.0 in
     both_matched c.args.store.now (equation_in c.args.book.now c.args.i) (term_in c.args.store.now c.args.p.0)
-    (term_in c.args.store.now c.args.q.0) c.new-bindings.result c.matches.new.bindings c.new-bindings.ensures
-    c.matches-2.new.bindings c.matches-2.result
-    (c.if-not-matches.ensures _ _ (left_pattern c.args.book.now c.args.store.now c.args.p c.args.q can
+    (term_in c.args.store.now c.args.q.0) c.new-bindings.result c.match_pattern.new.bindings c.new-bindings.ensures
+    c.match_pattern-2.new.bindings c.match_pattern-2.result
+    (c.if-not-match_pattern.ensures _ _ (left_pattern c.args.book.now c.args.store.now c.args.p c.args.q can
     c.args.i c.requires.1 _ _ _ c.equation-sides.ensures))
-    (c.matches-2.ensures _ _ (right_pattern c.args.book.now c.args.store.now c.args.p c.args.q can
+    (c.match_pattern-2.ensures _ _ (right_pattern c.args.book.now c.args.store.now c.args.p c.args.q can
     c.args.i c.requires.1 _ _ _ c.equation-sides.ensures))

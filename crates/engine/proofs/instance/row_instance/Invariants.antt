@@ -2,7 +2,7 @@
 use Rattle.rewriting.specs.Terms.{Term}
 use Rattle.engine.specs.Building.{Fillable}
 use Rattle.engine.proofs.Builder.{SoBuilt}
-use Rattle.engine.proofs.instance.instance.Given as goal
+use Rattle.engine.proofs.instance.row_instance.Given as goal
 
 abbrev pub invariant-loop-k : goal.invariant-loop-k
 invariant-loop-k l = (t : Term) → Fillable l.parts l.row l.bindings t →
