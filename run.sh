@@ -1,17 +1,19 @@
 #!/bin/sh
 # Builds a program, which is quick where nothing has changed, and runs it.
-#   ./run.sh [OPTIONS] [FILE]           judges a book, by default books/sums.book
-#   ./run.sh tell [OPTIONS] BOOK PAIRS  compares the pairs of terms in PAIRS, or on the standard input, by a book
+#   ./run.sh [OPTIONS] [FILE]                reads a book, by default books/sums.book, and says what it has read: the program judge
+#   ./run.sh judge_in_full [OPTIONS] [FILE]  judges a book
+#   ./run.sh tell [OPTIONS] BOOK PAIRS       compares the pairs of terms in PAIRS, or on the standard input, by a book
 set -eu
 cd "$(dirname "$0")"
 . ./toolchain.sh
-program=judge_in_full
-if [ "${1:-}" = tell ]; then
-    program=tell
+program=judge
+case "${1:-}" in
+judge_in_full | tell)
+    program=$1
     shift
-elif [ $# -eq 0 ]; then
-    set -- books/sums.book
-fi
+    ;;
+esac
+[ $# -gt 0 ] || [ "$program" = tell ] || set -- books/sums.book
 log=$(mktemp)
 trap 'rm -f "$log"' EXIT
 (cd "crates/$program" && rt run -- --version) >"$log" 2>&1 || {
