@@ -1,5 +1,5 @@
 -- The machine from its start to its end.
-use Rattle.std.proofs.Common.{◌≡◌, ℕ, ◌+◌, ◌-◌, ◌<◌, true, false, List, [], ◌∷◌, length, sym, refl, ap, ◌∙◌, subst, ap₂, arith}
+use Rattle.std.proofs.Common.{◌≡◌, ℕ, ◌+◌, ◌-◌, ◌<◌, List, [], ◌∷◌, length, Ok, Err, sym, refl, ap, ◌∙◌, subst, ap₂, arith}
 use native.Mathlib.Decide.{ℕ_discrete}
 use Rattle.rewriting.specs.Terms.{Term}
 use Rattle.rewriting.specs.Rules.{Eq, Steps, stay, Done}
@@ -25,6 +25,8 @@ use Rattle.engine.specs.Frames.{Emptied}
 use Rattle.engine.specs.Running.{Framed, frames_of, frames_in, state_in, Asks, AskedFor}
 use Rattle.engine.specs.Turning.{Goes, Ready, KeptBelow, TurnedTo}
 use Rattle.engine.specs.Spacing.{Wanting, few_slots, few_words, few_cells, Halted, WithSpace, Went, Ended}
+use Rattle.engine.specs.declared.types.NoRoom.{NoRoom}
+use Rattle.engine.specs.declared.work.Work.{Work}
 use Rattle.engine.specs.Normal.{Startable, Normalized}
 
 pub kept_on : (low : ℕ) (a : Store) (q : Roots) (f : Frames) (b : Store) (r : Roots) (g : Frames) (c : Store) (s : Roots) (h : Frames) →
@@ -125,8 +127,17 @@ module _ (b : Book) (low : ℕ) where
         )
 
 -- from a start to an end
-module _ (b : Book) (st : Store) (q0 : Roots) (fr0 : Frames) (can : Startable b st q0) (q : Roots) (cut : CutTo q0 (q0.top - 1) q)
-    (fr : Frames) (none : Emptied fr0 fr) (p : Place) (at : p.0 ≡ root_in q0 (q0.top - 1)) where
+module _ (b : Book) (w0 : Work) (can : Startable b w0) (q : Roots) (cut : CutTo w0.roots (w0.roots.top - 1) q)
+    (fr : Frames) (none : Emptied w0.frames fr) (p : Place) (at : p.0 ≡ root_in w0.roots (w0.roots.top - 1)) where
+  abbrev st : Store
+  st = w0.store
+
+  abbrev q0 : Roots
+  q0 = w0.roots
+
+  abbrev fr0 : Frames
+  fr0 = w0.frames
+
   abbrev low : ℕ
   low = q0.top - 1
 
@@ -174,7 +185,7 @@ module _ (b : Book) (st : Store) (q0 : Roots) (fr0 : Frames) (can : Startable b 
     kept_all k = kept_on low st q fr su r gr sv s hr u0.kept k
 
     pub normal : (v : Place) → Ended b low su r gr e sv s hr v → (o : Roots) → StackedOn s low v.0 o →
-        Normalized b st q0 fr0 sv o hr true
+        Normalized b w0 (record { store = sv; roots = o; frames = hr }) (Ok tt)
     normal v d o on =
         let (steps, done, top) = last_state b low st q fr (whole (state_in st q fr (Eval p))) su r gr e u0 sv s hr v d in
         let k = kept_all d.kept in
@@ -205,8 +216,8 @@ module _ (b : Book) (st : Store) (q0 : Roots) (fr0 : Frames) (can : Startable b 
             omega (arith, on.rest j z, d.ready.running.inside.low j (omega (arith, h.2)))
 
     pub stopped : Halted (told b).rules low su r gr (whole (state_in su r gr e)) sv s hr → (o : Roots) → CutTo s low o →
-        Normalized b st q0 fr0 sv o hr false
-    stopped d o c =
+        (e : NoRoom) → Normalized b w0 (record { store = sv; roots = o; frames = hr }) (Err e)
+    stopped d o c none_left =
         let k = kept_all d.kept in
         let same : (j : ℕ) → root_in o j ≡ root_in s j = λ j. ap (λ (cs : List ℕ). root_at cs j) c.cells in
         let w = wanting_kept low st q fr su r gr (whole (state_in su r gr e)) u0.kept d.wanting in

@@ -7,7 +7,8 @@ ghost use Rattle.engine.specs.Normal.{Normalized, Startable};
 
 use crate::space::with_space;
 use crate::turns::{back, eval};
-use crate::types::{Focus, Frames, Progress};
+use crate::types::{Focus, Frames, NoRoom, Progress};
+use crate::work::Work;
 use books::Book;
 use store::{Roots, Store};
 
@@ -38,26 +39,33 @@ fn step(
     }
 }
 
-// Puts the normal form of the uppermost root's term in its place; or takes this root away and says no, for want of space.
-pub fn normalize(book: &Book, store: &mut Store, roots: &mut Roots, frames: &mut Frames) -> bool
-    requires { Startable book.now store.old roots.old }
-    ensures { Normalized book.now store.old roots.old frames.old
-        store.new roots.new frames.new result }
-{
-    let low = roots.top - 1;
-    let mut focus = Focus::Eval(roots.place(low));
-    roots.truncate(low);
-    frames.clear();
-    loop {
-        match step(book, store, roots, frames, focus) {
-            Progress::Going(next) => focus = next,
-            Progress::Finished(v) => {
-                roots.stack(low, v);
-                return true;
-            }
-            Progress::Stopped => {
-                roots.truncate(low);
-                return false;
+impl Work<'_> {
+    // Puts the normal form of the uppermost root's term in its place; or takes this root away, for want of space.
+    pub fn normalize(&mut self, book: &Book) -> Result<(), NoRoom>
+        requires { Startable book.now self.old }
+        ensures { Normalized book.now self.old self.new result }
+    {
+        let low = self.roots.top - 1;
+        let mut focus = Focus::Eval(self.roots.place(low));
+        self.roots.truncate(low);
+        self.frames.clear();
+        loop {
+            match step(
+                book,
+                &mut self.store,
+                &mut self.roots,
+                &mut self.frames,
+                focus,
+            ) {
+                Progress::Going(next) => focus = next,
+                Progress::Finished(v) => {
+                    self.roots.stack(low, v);
+                    return Ok(());
+                }
+                Progress::Stopped => {
+                    self.roots.truncate(low);
+                    return Err(NoRoom);
+                }
             }
         }
     }

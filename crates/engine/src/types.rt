@@ -54,10 +54,6 @@ pub enum Progress {
     Stopped,
 }
 
-// What is found of two terms: they have one normal form, or two different ones, or there is no room to tell.
-#[derive(Clone, Copy)]
-pub enum Compared {
-    Same,
-    Different,
-    Room,
-}
+// There is too little room for the work.
+#[derive(Clone, Copy, Debug, PartialEq, Eq)]
+pub struct NoRoom;

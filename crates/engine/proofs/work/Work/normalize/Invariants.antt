@@ -1,0 +1,14 @@
+-- Where the machine has come to; each turn makes the cost smaller.
+use Rattle.rewriting.specs.Machine.{whole}
+use Rattle.rewriting.proofs.Costing.{cost}
+use Rattle.books.specs.Books.{told}
+use Rattle.engine.specs.Running.{state_in}
+use Rattle.engine.proofs.RunningOn.{Underway}
+use Rattle.engine.proofs.work.Work.normalize.Given as goal
+
+abbrev pub decreases-loop-next : goal.decreases-loop-next
+decreases-loop-next l = cost (told l.book) (state_in l.self.store l.self.roots l.self.frames l.focus)
+
+abbrev pub invariant-loop-next : goal.invariant-loop-next
+invariant-loop-next l = Underway l.book l.low l.initial.self.store l.initial.self.roots l.initial.self.frames
+    (whole (state_in l.initial.self.store l.initial.self.roots l.initial.self.frames l.initial.focus)) l.self.store l.self.roots l.self.frames l.focus
