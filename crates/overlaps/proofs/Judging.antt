@@ -1,5 +1,5 @@
 -- What the comparison of both results tells of the book.
-use Rattle.std.proofs.Common.{◌≡◌, ℕ, ◌+◌, ◌<◌, ◌≤◌, length, Some, None, sym, refl, ap, ◌∙◌, subst, subst₂, inl, inr, arith}
+use Rattle.std.proofs.Common.{◌≡◌, ℕ, ◌+◌, ◌<◌, ◌≤◌, Bool, true, false, length, Some, None, Ok, Err, Result, sym, refl, ap, ◌∙◌, subst, subst₂, inl, inr, arith}
 use mathlib.Core.Option.{some}
 use Rattle.rewriting.specs.Terms.{nth, Term, letter, sign, Terms, put, size, Fits, SmallLetter, AnyLetter}
 use Rattle.rewriting.specs.Rules.{Eq, Step, at_top, Steps, go, Meet, Part, renamed}
@@ -21,13 +21,11 @@ use Rattle.books.specs.Books.{told, blank, rule_in, SoundBook}
 use Rattle.books.proofs.Elements.{nth_is, nth_below}
 use Rattle.books.proofs.Bookish.{is_rule}
 use Rattle.engine.specs.declared.types.Frames.{Frames}
-use Rattle.engine.specs.declared.types.Compared.TheVariants.{Same, Different, Room}
+use Rattle.engine.specs.declared.types.NoRoom.{NoRoom}
+use Rattle.engine.specs.declared.work.Work.{Work}
 use Rattle.engine.specs.Meeting.{Ample, Working, LeftIdle, TwoRoots, Compares}
 use Rattle.overlaps.specs.declared.types.Overlap.{Overlap}
 use Rattle.overlaps.specs.declared.types.Pair.{Pair}
-use Rattle.overlaps.specs.declared.types.Ends.{Ends}
-use Rattle.overlaps.specs.declared.types.Ends.TheVariants.{One, Apart}
-use Rattle.overlaps.specs.declared.types.Ends.TheVariants.{Room as NoRoom}
 use Rattle.overlaps.specs.Positions.{index, Stands, OverlapIs, OverlapOrNone}
 use Rattle.overlaps.specs.Pairs.{Results, PairFound}
 use Rattle.overlaps.specs.Verdict.{JoinedBy, Joined, TooLarge, OverlapSays, OneEndSays}
@@ -85,8 +83,8 @@ module _ (b : Book) (su : Store) (w : Working b su) (o : Overlap) (stands : Stan
     held1 : held su q2 1 ≡ fill place l.s (put l.s (renamed (rule_in b o.inner).right))
     held1 = ap (λ (i : ℕ). term_in su i) s2.is ∙ res.second
 
-    pub two_roots : TwoRoots b su q2
-    two_roots = record {
+    pub two_roots : (fr : Frames) → TwoRoots b (record { store = su; roots = q2; frames = fr })
+    two_roots fr = record {
       inside = record {
         fits = omega (arith, s1.long, s2.long, s2.top);
         low = λ k h. low k (omega (arith, s2.top));
@@ -104,17 +102,18 @@ module _ (b : Book) (su : Store) (w : Working b su) (o : Overlap) (stands : Stan
               subst (λ (j : ℕ). root_in q2 j < su.count) (sym e) (omega (arith, root0, res.first_inside))
         ]
 
-    pub same_meet : (n : ℕ) → Compares b n (held su q2 0) (held su q2 1) Same →
+    pub same_meet : (n : ℕ) → Compares b n (held su q2 0) (held su q2 1) (Ok true) →
         Meet (told b).rules (put l.s (rule_in b o.outer).right)
         (fill place l.s (put l.s (renamed (rule_in b o.inner).right)))
     same_meet n (x, h, k) = subst₂ (Meet (told b).rules) held0 held1 (x, h, k)
 
-    pub different_apart : (n : ℕ) → Compares b n (held su q2 0) (held su q2 1) Different → OneEnd (told b) → ⊥
+    pub different_apart : (n : ℕ) → Compares b n (held su q2 0) (held su q2 1) (Ok false) → OneEnd (told b) → ⊥
     different_apart n (x, y, hx, dx, hy, dy, ne) = apart_by (told b) peak_term x y peak_fits
         (go first_step (subst (λ (t : Term). Steps (told b).rules t x) held0 hx)) dx
         (go second_step (subst (λ (t : Term). Steps (told b).rules t y) held1 hy)) dy ne
 
-    pub room_large : (f : ℕ) (vs : Terms) → v ≡ sign f vs → (n : ℕ) → Compares b n (held su q2 0) (held su q2 1) Room → TooLarge b n
+    pub room_large : {e : NoRoom} (f : ℕ) (vs : Terms) → v ≡ sign f vs → (n : ℕ) →
+        Compares b n (held su q2 0) (held su q2 1) (Err e) → TooLarge b n
     room_large f vs e n (x, inl h, m) =
         (peak_term, x, peak_here f vs e, go first_step (subst (λ (t : Term). Steps (told b).rules t x) held0 h), m)
     room_large f vs e n (x, inr h, m) =
@@ -137,44 +136,45 @@ module _ {b : Book} {i j k : ℕ} {o : Overlap} {st su : Store} (is : OverlapIs 
     results : Results is.stands.place least.s (rule_in b o.outer).right (rule_in b o.inner).right su r
     results = (found.pair is.stands.part is.stands.place is.stands.at).1
 
-    pub roots_two : TwoRoots b su q2
-    roots_two = two_roots b su found.working o is.stands is.stands.place least r results q0 q1 q2 s1 s2 cells
+    module _ (fr : Frames) where
+      abbrev before : Work
+      before = record { store = st; roots = q0; frames = fr }
 
-    -- there is as much room as before
-    still_ample : {fr : Frames} {n : ℕ} → Ample n st q0 fr → Ample n su q2 fr
-    still_ample a = record {
-      slots = omega (arith, a.slots, found.room);
-      cells = omega (arith, a.cells, s1.long, s2.long);
-      words = a.words;
-    }
+      abbrev ready : Work
+      ready = record { store = su; roots = q2; frames = fr }
 
-    pub same_says : {fr : Frames} (n : ℕ) → (Ample n su q2 fr → Compares b n (held su q2 0) (held su q2 1) Same) →
-        Ample n st q0 fr → OverlapSays b n i j k One
-    same_says n c a = subst₂ (λ (x y : ℕ). Joined b x y k) is.outer is.inner
-        (λ f vs place e s d. let (l, res) = found.pair (sign f vs) place (is.each (sign f vs) place e) in
-        results_through (rule_in b o.outer) (rule_in b o.inner) place s l.s s (l.most s d)
-        (same_meet b su found.working o is.stands place l r res q0 q1 q2 s1 s2 cells n (c (still_ample a))))
+      pub roots_two : TwoRoots b ready
+      roots_two = two_roots b su found.working o is.stands is.stands.place least r results q0 q1 q2 s1 s2 cells fr
 
-    pub different_says : {fr : Frames} (n : ℕ) → (Ample n su q2 fr → Compares b n (held su q2 0) (held su q2 1) Different) →
-        Ample n st q0 fr → OverlapSays b n i j k Apart
-    different_says n c a =
-        different_apart b su found.working o is.stands is.stands.place least r results q0 q1 q2 s1 s2 cells n (c (still_ample a))
+      -- there is as much room as before
+      still_ample : {n : ℕ} → Ample n before → Ample n ready
+      still_ample a = record {
+        slots = omega (arith, a.slots, found.room);
+        cells = omega (arith, a.cells, s1.long, s2.long);
+        words = a.words;
+      }
 
-    pub room_says : {fr : Frames} (n : ℕ) → (Ample n su q2 fr → Compares b n (held su q2 0) (held su q2 1) Room) →
-        Ample n st q0 fr → OverlapSays b n i j k NoRoom
-    room_says n c a = let (f, vs, e) = is.is_sign in
-        room_large b su found.working o is.stands is.stands.place least r results q0 q1 q2 s1 s2 cells f vs e n
-        (c (still_ample a))
+      pub says : (n : ℕ) (x : Result Bool NoRoom) → (Ample n ready → Compares b n (held su q2 0) (held su q2 1) x) → Ample n before →
+          OverlapSays b n i j k x
+      says n (Ok true) c a = subst₂ (λ (x y : ℕ). Joined b x y k) is.outer is.inner
+          (λ f vs place e s d. let (l, res) = found.pair (sign f vs) place (is.each (sign f vs) place e) in
+          results_through (rule_in b o.outer) (rule_in b o.inner) place s l.s s (l.most s d)
+          (same_meet b su found.working o is.stands place l r res q0 q1 q2 s1 s2 cells n (c (still_ample a))))
+      says n (Ok false) c a =
+          different_apart b su found.working o is.stands is.stands.place least r results q0 q1 q2 s1 s2 cells n (c (still_ample a))
+      says n (Err e) c a = let (f, vs, is_f) = is.is_sign in
+          room_large b su found.working o is.stands is.stands.place least r results q0 q1 q2 s1 s2 cells f vs is_f n
+          (c (still_ample a))
 
-    -- nothing is left over
-    pub idle_again : {sv : Store} {q3 : Roots} {fr gr : Frames} → LeftIdle b su q2 fr sv q3 gr → LeftIdle b st q0 fr sv q3 gr
-    idle_again d = record {
-      working = d.working;
-      room = d.room ∙ found.room;
-      cells = d.cells ∙ (s2.long ∙ s1.long);
-      words = d.words;
-      none = d.none;
-    }
+      -- nothing is left over
+      pub idle_again : {v : Work} → LeftIdle b ready v → LeftIdle b before v
+      idle_again d = record {
+        working = d.working;
+        room = d.room ∙ found.room;
+        cells = d.cells ∙ (s2.long ∙ s1.long);
+        words = d.words;
+        none = d.none;
+      }
 
 -- which of the overlaps are joined: all of the rules before the first one; of that one, all with the rules before the second; and with
 -- that one, all before the symbol
@@ -225,9 +225,3 @@ all_joined b i j k sound down l t = overlaps_tell_lem (told b) sound.reads.fine 
         (t.before m.i m.j (index m.stands) (omega arith) (nth_below (told b).rules m.j m.q m.is_q)
         (subst (λ (p : Eq). index m.stands < size p.left) (sym (is m.i m.p m.is_p)) (index_low m.stands))) in
         ps m.f m.vs m.stands refl m.s m.meet
-
--- what an overlap says that is not joined is said of the book
-pub not_joined : (b : Book) (n i j k : ℕ) (r : Ends) → (r ≡ One → ⊥) → OverlapSays b n i j k r → OneEndSays b n r
-not_joined b n i j k One ne h = absurd (ne refl)
-not_joined b n i j k Apart ne h = h
-not_joined b n i j k NoRoom ne h = h

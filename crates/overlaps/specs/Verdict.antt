@@ -1,5 +1,5 @@
 -- What one overlap tells, and what all of them do.
-use Rattle.std.specs.Prelude.{◌≡◌, ℕ, ◌<◌, List, [], ◌∷◌}
+use Rattle.std.specs.Prelude.{◌≡◌, ℕ, ◌<◌, Bool, true, false, List, [], ◌∷◌, Ok, Err, Result}
 use Rattle.rewriting.specs.Terms.{Term, sign, Terms, put}
 use Rattle.rewriting.specs.Rules.{Eq, Steps, Meet, Part, renamed}
 use Rattle.rewriting.specs.Overlaps.{fill, Peak}
@@ -7,8 +7,7 @@ use Rattle.rewriting.specs.Books.{OneEnd}
 use Rattle.rewriting.specs.Different.{different}
 use Rattle.books.specs.declared.row.Book.{Book}
 use Rattle.books.specs.Books.{told, rule_in}
-use Rattle.overlaps.specs.declared.types.Ends.{Ends}
-use Rattle.overlaps.specs.declared.types.Ends.TheVariants.{One, Apart, Room}
+use Rattle.engine.specs.declared.types.NoRoom.{NoRoom}
 use Rattle.overlaps.specs.Positions.{index}
 
 -- rule q at symbol k of rule p's left side: whatever makes the sign there and the other left side one, both results come together
@@ -24,13 +23,13 @@ abbrev pub TooLarge : Book → ℕ → Type 0
 TooLarge b n = (t u : Term) × Peak (told b).rules t × Steps (told b).rules t u × (n < different (u ∷ []))
 
 -- both results come together at symbol k of rule i's left side with rule j; or the book has not one end; or there is no room to tell
-abbrev pub OverlapSays : Book → ℕ → ℕ → ℕ → ℕ → Ends → Type 0
-OverlapSays b n i j k One = Joined b i j k
-OverlapSays b n i j k Apart = OneEnd (told b) → ⊥
-OverlapSays b n i j k Room = TooLarge b n
+abbrev pub OverlapSays : Book → ℕ → ℕ → ℕ → ℕ → Result Bool NoRoom → Type 0
+OverlapSays b n i j k (Ok true) = Joined b i j k
+OverlapSays b n i j k (Ok false) = OneEnd (told b) → ⊥
+OverlapSays b n i j k (Err _) = TooLarge b n
 
 -- the book has one end; or not; or there is no room to tell
-abbrev pub OneEndSays : Book → ℕ → Ends → Type 0
-OneEndSays b n One = OneEnd (told b)
-OneEndSays b n Apart = OneEnd (told b) → ⊥
-OneEndSays b n Room = TooLarge b n
+abbrev pub OneEndSays : Book → ℕ → Result Bool NoRoom → Type 0
+OneEndSays b n (Ok true) = OneEnd (told b)
+OneEndSays b n (Ok false) = OneEnd (told b) → ⊥
+OneEndSays b n (Err _) = TooLarge b n

@@ -55,8 +55,6 @@ pub fn critical_pair(book: &Book, overlap: Overlap, store: &mut Store) -> Option
     requires { (Working book.now store.old) × ((Stands book.now overlap) × (512 ≤ store.old.room)) }
     ensures { PairFound book.now overlap store.old store.new result }
 {
-    match unifier(book, overlap, store) {
-        Some(unifier) => Some(results(book, overlap, &unifier, store)),
-        None => None,
-    }
+    let unifier = unifier(book, overlap, store)?;
+    Some(results(book, overlap, &unifier, store))
 }

@@ -7,14 +7,6 @@ pub const LETTERS: usize = 16;
 // The letter that stands for a hole: none that a rule has.
 pub const HOLE: usize = 16;
 
-// What is found of a book whose rules go down: all that comes from one term meets, or not, or there is no room to tell.
-#[derive(Clone, Copy)]
-pub enum Ends {
-    One,
-    Apart,
-    Room,
-}
-
 // Where two rules may meet: the left side of rule `inner`, at the part of rule `outer`'s left side that stands in its row from word
 // `from` up to `to`.
 #[derive(Clone, Copy)]

@@ -1,11 +1,10 @@
 -- One overlap more; all symbols; all second rules; all rules; or one overlap tells already.
-use Rattle.std.proofs.Common.{◌≡◌, ◌*◌, length, sym, ap, ◌∙◌, subst, arith}
+use Rattle.std.proofs.Common.{◌≡◌, ◌*◌, Bool, Ok, length, sym, ap, ◌∙◌, subst, arith}
 use Rattle.rewriting.specs.Terms.{size}
 use Rattle.books.specs.Books.{rule_in}
 use Rattle.books.proofs.Glueing.{row_length}
-use Rattle.overlaps.specs.declared.types.Ends.{Ends}
-use Rattle.overlaps.specs.Verdict.{OneEndSays}
-use Rattle.overlaps.proofs.Judging.{joined_more, joined_symbols, joined_rules, all_joined, not_joined}
+use Rattle.overlaps.specs.Verdict.{OneEndSays, OverlapSays}
+use Rattle.overlaps.proofs.Judging.{joined_more, joined_symbols, joined_rules, all_joined}
 use Rattle.overlaps.proofs.Going.{idle_then, ample_still}
 use Rattle.overlaps.proofs.ends.one_end.Goals as goal
 
@@ -29,7 +28,8 @@ loop-k-preserved c =
     record {
       idle = idle_then c.loop-k.invariant.idle c.results_meet.ensures.idle;
       joined = joined_more b c.pairs.i c.loop-j.j c.loop-k.k c.loop-k.invariant.joined
-          (c.in-One.ensures.result c.requires.1.1.0 (ample_still d c.requires.1.1.1));
+          (subst (λ (x : Bool). OverlapSays b c.requires.1.1.0 c.pairs.i c.loop-j.j c.loop-k.k (Ok x)) c.if-not-meet.false
+          (c.in_ok-meet.ensures.result c.requires.1.1.0 (ample_still d c.requires.1.1.1)));
       none = c.loop-k.invariant.none;
     }
 
@@ -59,17 +59,7 @@ returns-after-pairs c =
     let b = c.args.book.now in let w = c.pairs.invariant.idle.working in
     record {
       idle = c.pairs.invariant.idle;
-      result = λ n a. subst (λ (x : Ends). OneEndSays b n x) (sym c.pairs.invariant.none)
+      result = λ n a. subst (λ (x : Bool). OneEndSays b n (Ok x)) (sym c.pairs.invariant.none)
           (all_joined b c.pairs.i 0 0 w.book w.down (omega (arith, c.rules-rules.ensures, w.book.laid.rules))
           c.pairs.invariant.joined);
-    }
-
-pub returns-in_default : goal.returns-in_default
-returns-in_default c =
-    let b = c.args.book.now in
-    let d = idle_then (idle_then c.pairs.invariant.idle c.loop-j.invariant.idle) c.loop-k.invariant.idle in
-    record {
-      idle = idle_then d c.results_meet.ensures.idle;
-      result = λ n a. not_joined b n c.pairs.i c.loop-j.j c.loop-k.k c.results_meet.result c.in_default.not-One
-          (c.results_meet.ensures.result n (ample_still d a));
     }

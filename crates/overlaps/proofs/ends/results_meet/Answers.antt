@@ -1,6 +1,6 @@
 -- No overlap, no replacement, or what the comparison tells.
 use Rattle.std.proofs.Common.{refl, arith}
-use Rattle.overlaps.proofs.Judging.{never_joined, roots_two, same_says, different_says, room_says, idle_again}
+use Rattle.overlaps.proofs.Judging.{never_joined, roots_two, says, idle_again}
 use Rattle.overlaps.proofs.ends.results_meet.Goals as goal
 
 pub returns-in_default-critical_pair : goal.returns-in_default-critical_pair
@@ -15,29 +15,13 @@ pub compare-requires : goal.compare-requires
 compare-requires c = (
   c.in-Some-critical_pair.ensures.working,
   roots_two c.in-Some.ensures c.in-Some-critical_pair.ensures c.stack.ensures c.stack-2.ensures
-      (omega (arith, c.requires.working.1.1.1.cells)),
+      (omega (arith, c.requires.working.1.1.1.cells)) _,
 )
 
-pub returns-in-Same : goal.returns-in-Same
-returns-in-Same c = record {
+pub returns : goal.returns
+returns c = record {
   idle = idle_again c.in-Some.ensures c.in-Some-critical_pair.ensures c.stack.ensures c.stack-2.ensures
-      (omega (arith, c.requires.working.1.1.1.cells)) c.compare.ensures.idle;
-  result = λ n. same_says c.in-Some.ensures c.in-Some-critical_pair.ensures c.stack.ensures c.stack-2.ensures
-      (omega (arith, c.requires.working.1.1.1.cells)) n (c.in-Same.ensures.result n);
-}
-
-pub returns-in-Different : goal.returns-in-Different
-returns-in-Different c = record {
-  idle = idle_again c.in-Some.ensures c.in-Some-critical_pair.ensures c.stack.ensures c.stack-2.ensures
-      (omega (arith, c.requires.working.1.1.1.cells)) c.compare.ensures.idle;
-  result = λ n. different_says c.in-Some.ensures c.in-Some-critical_pair.ensures c.stack.ensures c.stack-2.ensures
-      (omega (arith, c.requires.working.1.1.1.cells)) n (c.in-Different.ensures.result n);
-}
-
-pub returns-in-Room : goal.returns-in-Room
-returns-in-Room c = record {
-  idle = idle_again c.in-Some.ensures c.in-Some-critical_pair.ensures c.stack.ensures c.stack-2.ensures
-      (omega (arith, c.requires.working.1.1.1.cells)) c.compare.ensures.idle;
-  result = λ n. room_says c.in-Some.ensures c.in-Some-critical_pair.ensures c.stack.ensures c.stack-2.ensures
-      (omega (arith, c.requires.working.1.1.1.cells)) n (c.in-Room.ensures.result n);
+      (omega (arith, c.requires.working.1.1.1.cells)) _ c.compare.ensures.idle;
+  result = λ n. says c.in-Some.ensures c.in-Some-critical_pair.ensures c.stack.ensures c.stack-2.ensures
+      (omega (arith, c.requires.working.1.1.1.cells)) _ n c.compare.result (c.compare.ensures.result n);
 }

@@ -4,15 +4,15 @@ use Rattle.overlaps.proofs.pairs.critical_pair.Goals as goal
 
 pub results-requires : goal.results-requires
 results-requires c =
-    let f = c.in-Some.ensures in
+    let f = c.in_ok-unifier.ensures in
     let s = c.requires.1.0 in
     let u = f.unified s.part s.place s.at in
     record { sound_book = (c.requires.0.book, (s, record { all = u.all; inside = u.inside })); sound = (f.sound, f.space) }
 
-pub returns-in-Some : goal.returns-in-Some
-returns-in-Some c = pair_found c.args.book.now c.args.overlap c.args.store.now c.unifier.new.store
-    c.results.new.store c.in-Some.unifier c.results.result c.requires.0 c.in-Some.ensures c.results.ensures
+pub returns : goal.returns
+returns c = pair_found c.args.book.now c.args.overlap c.args.store.now c.unifier.new.store
+    c.results.new.store _ c.results.result c.requires.0 c.in_ok-unifier.ensures c.results.ensures
 
-pub returns-in-None : goal.returns-in-None
-returns-in-None c = none_found c.args.book.now c.args.overlap c.args.store.now c.unifier.new.store c.requires.0
-    c.in-None.ensures
+pub returns-in_err-unifier : goal.returns-in_err-unifier
+returns-in_err-unifier c = rw c.from_residual.ensures
+    (none_found c.args.book.now c.args.overlap c.args.store.now c.unifier.new.store c.requires.0 c.in_err-unifier.ensures)
