@@ -1,8 +1,8 @@
 -- Letters in a store, and bindings of them.
-use Rattle.std.proofs.Common.{◌≡◌, ℕ, ◌+◌, ◌<◌, ◌≤◌, ◌≢◌, List, length, get_or, set, replicate, Some, None, Option as Maybe, sym, ap, ◌∙◌}
-use Rattle.std.proofs.Common.{subst, ⊎_elim, arith, length-set, get_or-set_other, get_or-set_same}
+use Rattle.std.proofs.Common.{◌≡◌, ℕ, ◌+◌, ◌<◌, ◌≤◌, ◌-◌, ◌≢◌, List, ◌++◌, length, drop, get_or, set, replicate, Some, None, Option as Maybe, sym, ap, ◌∙◌}
+use Rattle.std.proofs.Common.{subst, ⊎_elim, arith, length-set, get_or-drop, get_or-set_other, get_or-set_same}
 use lib.ListN.{get_or-replicate}
-use Rattle.std.proofs.lemmas.List.{get_or_past}
+use Rattle.std.proofs.lemmas.List.{get_or_append_left, get_or-append_right, get_or_past}
 use Rattle.rewriting.specs.Terms.{Term, letter, put, In}
 use Rattle.rewriting.specs.Rules.{Part, renamed}
 use Rattle.rewriting.specs.Overlaps.{fill}
@@ -18,10 +18,6 @@ use Rattle.engine.specs.Matching.{bound, term_or, put_in, AllInside, Bound}
 use Rattle.unification.specs.Unifiers.{LettersBound}
 use Rattle.overlaps.specs.Pairs.{LettersMade, Shifted, HoleBound, AllGiven}
 
-none_at : (b : Bindings) → b.at ≡ replicate 32 None → (x : ℕ) → bound b x ≡ None
-none_at b e x = ap (λ (v : List (Maybe Place)). get_or v x None) e ∙ ⊎_elim
-    (λ h. get_or_past (replicate 32 None) x None h) (λ h. get_or-replicate 32 x None None h) (le_or_lt 32 x)
-
 -- only letters that have a place in the array are bound
 pub bound_within : (b : Bindings) (x : ℕ) → Bound b x → x < length b.at
 bound_within b x (p, e) = ⊎_elim (λ h. absurd (some_none (sym e ∙ get_or_past b.at x None h))) (λ h. h) (le_or_lt (length b.at) x)
@@ -29,35 +25,16 @@ bound_within b x (p, e) = ⊎_elim (λ h. absurd (some_none (sym e ∙ get_or_pa
     some_none : Some p ≡ None → ⊥
     some_none d = let z : ◌≡◌ {A = ℕ} 0 1 = cc in omega arith
 
--- the first n of 16 letters
-pub record Shifting (b : Bindings) (n : ℕ) (c : Bindings) : Type 0 where
-  pub full : length c.at ≡ 32
-  pub low : (x : ℕ) → x < n → bound c x ≡ bound b (x + 16)
-  pub none : (x : ℕ) → n ≤ x → bound c x ≡ None
-
-pub none_shifted : (b c : Bindings) → c.at ≡ replicate 32 None → Shifting b 0 c
-none_shifted b c e = record {
-  full = ap length e;
-  low = λ x l. absurd (omega arith);
-  none = λ x l. none_at c e x;
+-- the places of the renamed letters, and nothing behind them
+pub shifted_by : (b : Bindings) (xs : List (Maybe Place)) → length b.at ≡ 32 → length xs ≡ 16 → xs ≡ drop 16 b.at →
+    Shifted b (record { at = xs ++ replicate 16 None })
+shifted_by b xs l n e = record {
+  low = λ x h. get_or_append_left xs (replicate 16 None) None x (omega (arith, n))
+      ∙ (ap (λ (v : List (Maybe Place)). get_or v x None) e ∙ (get_or-drop 16 b.at x None
+      ∙ ap (λ (i : ℕ). get_or b.at i None) (omega arith)));
+  none = λ x h. get_or-append_right xs (replicate 16 None) 16 x None n h ∙ ⊎_elim
+      (λ k. get_or_past (replicate 16 None) (x - 16) None k) (λ k. get_or-replicate 16 (x - 16) None None k) (le_or_lt 16 (x - 16));
 }
-
-pub one_shifted : (b : Bindings) (n : ℕ) (c d : Bindings) → n < 16 → d.at ≡ set c.at n (bound b (n + 16)) → Shifting b n c →
-    Shifting b (n + 1) d
-one_shifted b n c d l e s = record {
-  full = ap length e ∙ (length-set c.at n (bound b (n + 16)) ∙ s.full);
-  low = λ x h. ⊎_elim
-      (λ z. subst (λ (y : ℕ). bound d y ≡ bound b (y + 16)) (sym z) (ap (λ (v : List (Maybe Place)). get_or v n None) e
-      ∙ get_or-set_same c.at n (bound b (n + 16)) None (omega (arith, s.full))))
-      (λ z. other x (omega arith) ∙ s.low x z) (last_or_below x n (omega arith));
-  none = λ x h. other x (omega arith) ∙ s.none x (omega arith);
-}
-  where
-    other : (x : ℕ) → x ≢ n → bound d x ≡ bound c x
-    other x ne = ap (λ (v : List (Maybe Place)). get_or v x None) e ∙ get_or-set_other c.at n x (bound b (n + 16)) None ne
-
-pub all_shifted : (b c : Bindings) → Shifting b 16 c → Shifted b c
-all_shifted b c s = record { low = s.low; none = s.none }
 
 -- one letter more in the store
 pub no_letters : (st : Store) (b : Bindings) → Sound st → st.count ≡ 0 → b.at ≡ replicate 32 None → LettersMade 0 st st b

@@ -29,8 +29,7 @@ use Rattle.engine.proofs.Builder.{signs_then}
 use Rattle.unification.specs.Unifiers.{Ready, Unified, least_of}
 use Rattle.overlaps.specs.declared.types.Overlap.{Overlap}
 use Rattle.overlaps.specs.declared.types.Pair.{Pair}
-use Rattle.overlaps.specs.declared.types.Row.{Row}
-use Rattle.overlaps.specs.Positions.{At, Stands, WithHole}
+use Rattle.overlaps.specs.Positions.{At, Stands, holed}
 use Rattle.overlaps.specs.Pairs.{LettersMade, Shifted, HoleBound, AllGiven, Fresh, UnifierFound, ResultsBuilt, PairFound}
 use Rattle.overlaps.proofs.Positions.{over_fill, over_more, size_fill, part_length, at_some, at_cut, at_holed}
 use Rattle.overlaps.proofs.Lettering.{grown_inside, letters_inside, letters_grown, letters_put, shifted_inside, shifted_bound, renamed_put}
@@ -77,13 +76,13 @@ module _ (b : Book) (sound : SoundBook b) (ps : List ℕ) (ep : ps ≡ (told b).
       part_fillable u h = fillable 16 v _ u (omega arith) (over_part (told b).parts SmallLetter place sides.left) part_size
           (at_cut place ws e a z at) h
 
-      pub hole_fillable : (r : Row) (u : Bindings) → WithHole ws a z r → ((x : ℕ) → x < 17 → Bound u x) →
-          Fillable ps (take r.len r.words) u (fill place letter (letter 16))
-      hole_fillable r u w h = fillable 17 (fill place letter (letter 16)) _ u (omega arith)
+      pub hole_fillable : (ds : List ℕ) (u : Bindings) → ds ≡ holed ws a z → ((x : ℕ) → x < 17 → Bound u x) →
+          Fillable ps ds u (fill place letter (letter 16))
+      hole_fillable ds u w h = fillable 17 (fill place letter (letter 16)) _ u (omega arith)
           (over_fill (λ x. x < 17) (told b).parts (letter 16) (omega arith) place
           (over_more SmallLetter (λ x. x < 17) (told b).parts (rule_in b i).left sides.left (λ x l. omega arith)))
           (omega (arith, size_fill place (letter 16), sides.left_size, at.to, at_some place ws e a z at))
-          (w.is ∙ at_holed place ws e a z at) h
+          (w ∙ at_holed place ws e a z at) h
 
 -- letters of sides
 module _ (b : Book) (sound : SoundBook b) (i : ℕ) (low : i < length (told b).rules) where
@@ -243,9 +242,9 @@ module _ {b : Book} {o : Overlap} {st : Store} {u : Bindings} {ps ws : List ℕ}
       (first.sound, (omega (arith, first_space), shifted_there)),
     )
 
-    module _ {a2 : Store} {inner : Place} {uh : Bindings} {r : Row} {hs xs : List ℕ}
+    module _ {a2 : Store} {inner : Place} {uh : Bindings} {ds hs xs : List ℕ}
         (built2 : (t : Term) → Fillable qs vs us t → RowInstanceBuilt a1 us t a2 inner) (ex : xs ≡ row (rule_in b o.outer).left)
-        (hole : WithHole xs o.from o.to r) (hb : HoleBound u inner uh) (eh : hs ≡ (told b).parts) where
+        (hole : ds ≡ holed xs o.from o.to) (hb : HoleBound u inner uh) (eh : hs ≡ (told b).parts) where
       middle : RowInstanceBuilt a1 us (rule_in b o.inner).right a2 inner
       middle = built2 (rule_in b o.inner).right inner_fillable
 
@@ -259,11 +258,11 @@ module _ {b : Book} {o : Overlap} {st : Store} {u : Bindings} {ps ws : List ℕ}
       filling_inside = hole_inside u inner uh hb a2 middle.inside (grown_inside st a2 u grown2 given.inside)
 
       context_of : (v : Term) (place : Part v (rule_in b o.outer).left) → At place o.from o.to →
-          Fillable hs (take r.len r.words) uh (fill place letter (letter 16))
-      context_of v place at = hole_fillable b sound hs eh o.outer stands.outer xs ex place o.from o.to at r uh hole
+          Fillable hs ds uh (fill place letter (letter 16))
+      context_of v place at = hole_fillable b sound hs eh o.outer stands.outer xs ex place o.from o.to at ds uh hole
           (hole_bound u inner uh hb given.all)
 
-      pub context_fills : CanFill hs (take r.len r.words) uh a2
+      pub context_fills : CanFill hs ds uh a2
       context_fills = (
         (
           few_parts b sound hs eh,
@@ -273,7 +272,7 @@ module _ {b : Book} {o : Overlap} {st : Store} {u : Bindings} {ps ws : List ℕ}
       )
 
       pub results_built : {a3 : Store} {two : Place} →
-          ((t : Term) → Fillable hs (take r.len r.words) uh t → RowInstanceBuilt a2 uh t a3 two) →
+          ((t : Term) → Fillable hs ds uh t → RowInstanceBuilt a2 uh t a3 two) →
           ResultsBuilt b o st u a3 (record { first = one; second = two })
       results_built {a3} {two} built3 =
           let l = built3 _ (context_of stands.part stands.place stands.at) in

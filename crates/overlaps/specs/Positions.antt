@@ -6,7 +6,6 @@ use Rattle.rewriting.specs.Rules.{Part, itself, in_part, Parts, in_this, in_late
 use Rattle.books.specs.declared.row.Book.{Book}
 use Rattle.books.specs.Books.{told, rule_in}
 use Rattle.overlaps.specs.declared.types.Overlap.{Overlap}
-use Rattle.overlaps.specs.declared.types.Row.{Row}
 
 abbrev mutual
   pub index : {v t : Term} → Part v t → ℕ
@@ -51,7 +50,3 @@ OverlapOrNone b i j k None = (f : ℕ) (vs : Terms) (place : Part (sign f vs) (r
 -- the words with letter 16, a hole, for those from one place up to another
 abbrev pub holed : List ℕ → ℕ → ℕ → List ℕ
 holed ws a z = take a ws ++ (0 ∷ 16 ∷ drop z ws)
-
-pub record WithHole (ws : List ℕ) (a z : ℕ) (r : Row) : Type 0 where
-  pub short : r.len ≤ length r.words
-  pub is : take r.len r.words ≡ holed ws a z

@@ -16,8 +16,9 @@ pub fn all_letters(store: &mut Store) -> Bindings
     ensures { LettersMade 32 store.old store.new result }
 {
     let mut letters = Bindings::new();
-    for x in 0..32usize {
-        letters.at[x] = Some(store.share_letter(x as u32));
+    // Stays a loop over numbers: each is a letter, and the store changes with each.
+    for x in 0..32u32 {
+        letters.at[x as usize] = Some(store.share_letter(x));
     }
     letters
 }
@@ -26,11 +27,9 @@ pub fn all_letters(store: &mut Store) -> Bindings
 pub fn shifted(bindings: &Bindings) -> Bindings
     ensures { Shifted bindings.now result }
 {
-    let mut moved = Bindings::new();
-    for x in 0..LETTERS {
-        moved.at[x] = bindings.at[x + LETTERS];
-    }
-    moved
+    let mut at = [None; 2 * LETTERS];
+    at[..LETTERS].copy_from_slice(&bindings.at[LETTERS..]);
+    Bindings { at }
 }
 
 // The bindings with another place for the hole of a context.

@@ -7,10 +7,7 @@ ghost use Rattle.rewriting.specs.Answers.{Tells};
 ghost use Rattle.books.specs.Books.{told};
 ghost use Rattle.books.specs.Books.{rule_in};
 ghost use Rattle.books.specs.Books.{SoundBook};
-ghost use Rattle.overlaps.specs.Positions.{holed};
-ghost use Rattle.overlaps.specs.Positions.{SameSign};
-ghost use Rattle.overlaps.specs.Positions.{OverlapOrNone};
-ghost use Rattle.overlaps.specs.Positions.{WithHole};
+ghost use Rattle.overlaps.specs.Positions.{holed, SameSign, OverlapOrNone};
 
 use crate::types::{HOLE, Overlap, Row};
 use books::Book;
@@ -36,41 +33,24 @@ pub fn overlap_at(book: &Book, i: usize, j: usize, k: usize) -> Option<Overlap>
     if !same_sign(left, from, book.left(j)) {
         return None;
     }
-    match term_end(Letters::Small, book.parts(), left, from) {
-        Some(to) => Some(Overlap {
-            outer: i,
-            inner: j,
-            from,
-            to,
-        }),
-        None => None,
-    }
+    let to = term_end(Letters::Small, book.parts(), left, from)?;
+    Some(Overlap {
+        outer: i,
+        inner: j,
+        from,
+        to,
+    })
 }
 
-// Word i of a row with a hole, a letter, for the words from one place up to another.
-fn holed_word(row: &[u32], from: usize, to: usize, i: usize) -> u32
-    requires { (from + 2 ≤ to) × ((to ≤ length row.now) × (i + to < from + 2 + length row.now)) }
-    ensures { result ≡ slice_index (holed row.now from to) i }
-{
-    if i < from {
-        return row[i];
-    }
-    match i - from {
-        0 => 0,
-        1 => HOLE as u32,
-        n => row[to + (n - 2)],
-    }
-}
-
-// The row with such a hole.
+// The row with a hole, a letter, for the words from one place up to another.
 pub fn with_hole(row: &[u32], from: usize, to: usize) -> Row
     requires { (from + 2 ≤ to) × ((to ≤ length row.now) × (length row.now ≤ 64)) }
-    ensures { WithHole row.now from to result }
+    ensures { result.items ≡ holed row.now from to }
 {
-    let len = from + 2 + (row.len() - to);
-    let mut words = [0; 64];
-    for i in 0..len {
-        words[i] = holed_word(row, from, to, i);
-    }
-    Row { words, len }
+    let mut holed = Row::new();
+    holed.try_extend_from_slice(&row[..from]).unwrap();
+    holed.push(0);
+    holed.push(HOLE as u32);
+    holed.try_extend_from_slice(&row[to..]).unwrap();
+    holed
 }

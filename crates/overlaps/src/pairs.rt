@@ -44,9 +44,8 @@ fn results(book: &Book, overlap: Overlap, unifier: &Bindings, store: &mut Store)
     let renamed = shifted(unifier);
     let inner = row_instance(book.parts(), book.right(overlap.inner), &renamed, store);
     let context = with_hole(book.left(overlap.outer), overlap.from, overlap.to);
-    let len = context.len;
     let filling = bind_hole(unifier, inner);
-    let second = row_instance(book.parts(), &context.words[..len], &filling, store);
+    let second = row_instance(book.parts(), context.as_slice(), &filling, store);
     Pair { first, second }
 }
 

@@ -1,4 +1,5 @@
 // The types: an overlap of two rules, its two results, and what is found of a book.
+use arrayvec::ArrayVec;
 use store::Place;
 
 // Letters of rules are below this; those of the second rule are renamed by it.
@@ -25,8 +26,4 @@ pub struct Pair {
 }
 
 // The row of a term of at most 32 symbols.
-#[derive(Clone, Copy)]
-pub struct Row {
-    pub words: [u32; 64],
-    pub len: usize,
-}
+pub type Row = ArrayVec<u32, 64>;

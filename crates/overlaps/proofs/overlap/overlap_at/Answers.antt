@@ -27,15 +27,15 @@ returns-then-not-same_sign c =
     c.requires.i_in_bounds.1 _ _
     c.left-left.ensures c.left.ensures (c.if-not-same_sign.ensures.fails refl)
 
-pub returns-in-Some : goal.returns-in-Some
-returns-in-Some c =
+pub returns : goal.returns
+returns c =
     overlap_is c.args.book.now c.requires.sound_book.0 c.requires.sound_book.1 c.args.i c.args.j c.args.k c.requires.i_in_bounds.0
     c.requires.i_in_bounds.1 _ _
-    c.left-left.ensures c.left.ensures _ c.parts.ensures c.in-Some.to c.requires.k_bound
-    (c.same_sign.ensures.holds c.if-not-same_sign.false) c.in-Some.ensures
+    c.left-left.ensures c.left.ensures _ c.parts.ensures c.in_ok-to.to c.requires.k_bound
+    (c.same_sign.ensures.holds c.if-not-same_sign.false) c.in_ok-to.ensures
 
-pub returns-in-None : goal.returns-in-None
-returns-in-None c =
-    no_end c.args.book.now c.requires.sound_book.0 c.requires.sound_book.1 c.args.i c.args.j c.args.k c.requires.i_in_bounds.0
+pub returns-in_err-to : goal.returns-in_err-to
+returns-in_err-to c = rw c.from_residual.ensures
+    (no_end c.args.book.now c.requires.sound_book.0 c.requires.sound_book.1 c.args.i c.args.j c.args.k c.requires.i_in_bounds.0
     c.requires.i_in_bounds.1 _ _
-    c.left-left.ensures c.left.ensures _ c.parts.ensures c.in-None.ensures
+    c.left-left.ensures c.left.ensures _ c.parts.ensures c.in_err-to.ensures)

@@ -1,4 +1,5 @@
 -- The right sides, and the left side with a hole, are built one after the other.
+use Rattle.std.proofs.Common.{◌∙◌}
 use Rattle.overlaps.proofs.Positions.{at_within, at_some}
 use Rattle.overlaps.proofs.Overlapping.{side_short}
 use Rattle.overlaps.proofs.Pairing.{outer_fills, inner_fills, context_fills, results_built}
@@ -32,12 +33,12 @@ row_instance-second-requires c =
     let h = context_fills c.requires.sound_book.0 c.requires.sound_book.1.0 c.requires.sound_book.1.1 c.requires.sound.0 c.requires.sound.1
     c.parts.ensures c.right.ensures c.row_instance-first.ensures c.shifted-renamed.ensures c.parts-2.ensures
     c.right-2.ensures
-    c.row_instance-inner.ensures c.left.ensures c.with_hole-context.ensures c.bind_hole-filling.ensures c.parts-3.ensures in
+    c.row_instance-inner.ensures c.left.ensures (c.as_slice.ensures.value ∙ c.with_hole-context.ensures) c.bind_hole-filling.ensures c.parts-3.ensures in
     record { few_parts = h.0; sound = h.1 }
 
 pub returns : goal.returns
 returns c = results_built c.requires.sound_book.0 c.requires.sound_book.1.0 c.requires.sound_book.1.1 c.requires.sound.0
     c.requires.sound.1 c.parts.ensures
     c.right.ensures c.row_instance-first.ensures c.shifted-renamed.ensures c.parts-2.ensures c.right-2.ensures
-    c.row_instance-inner.ensures c.left.ensures c.with_hole-context.ensures c.bind_hole-filling.ensures c.parts-3.ensures
+    c.row_instance-inner.ensures c.left.ensures (c.as_slice.ensures.value ∙ c.with_hole-context.ensures) c.bind_hole-filling.ensures c.parts-3.ensures
     c.row_instance-second.ensures
