@@ -19,11 +19,11 @@ pub struct Roots<'a> {
 }
 
 // Where a term stands: the number of its slot.
-#[derive(Clone, Copy)]
+#[derive(Clone, Copy, Debug, PartialEq, Eq, Default)]
 pub struct Place(pub usize);
 
 // What stands at a place: a letter, or a sign and how many parts it has.
-#[derive(Clone, Copy)]
+#[derive(Clone, Copy, Debug, PartialEq, Eq)]
 pub enum Node {
     Letter(u32),
     Sign(u32, usize),
