@@ -1,5 +1,5 @@
 -- A sign asks for its parts where the signature has it, and for nothing where it has not.
-use Rattle.std.proofs.Common.{◌≡◌, ℕ, ◌<◌, ◌≤◌, length, get_or, sym, ap, ◌∙◌, rules}
+use Rattle.std.proofs.Common.{ap, ◌∙◌, rules}
 use mathlib.Core.Option.{some}
 use Rattle.books.specs.declared.words.Symbol.{Symbol}
 use Rattle.books.specs.Reading.{opens, tag, number}
