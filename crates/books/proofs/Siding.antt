@@ -1,6 +1,9 @@
 -- Sides, one after the other: what a loop over them keeps, and why it stops.
 use Rattle.std.proofs.Common.{◌≡◌, ℕ, zero, suc, ◌+◌, ◌<◌, ◌≤◌, ◌≢◌, ◌⊎◌, List, ◌++◌, length, get_or, drop, set, None, sym, refl, ap, ◌∙◌}
 use Rattle.std.proofs.Common.{subst, inl, inr, append_assoc, append-nil, arith, length-drop, get_or-set_other, get_or-set_same}
+use Rattle.std.proofs.Common.{Bool, true, false, eqb, eqb-true}
+use Rattle.std.specs.Bool.{then_some}
+use borrow.Author.Tests.{eqb-false}
 use mathlib.Core.Option.{some}
 use Rattle.rewriting.specs.Terms.{nth, Term, Terms, none1, and1, glue, count, size, Over, AllOver, SmallLetter}
 use Rattle.rewriting.proofs.Glueing.{count_glue}
@@ -112,7 +115,7 @@ module _ (ps ws : List ℕ) where
       let d : t ≡ k.0 = cc in
       omega (arith, at.long, k.3, ap size d)
 
-  pub more_words : (m a z : ℕ) (starts : List ℕ) → SidesAt ps ws m a z starts → (z ≡ length ws → ⊥) → SidesRead ps ws m a None
+  more_words : (m a z : ℕ) (starts : List ℕ) → SidesAt ps ws m a z starts → (z ≡ length ws → ⊥) → SidesRead ps ws m a None
   more_words m a z starts s ne us c o q w =
       let d = count_others m us (omega (arith, c)) in
       let e : others m us ≡ none1 = no_more (others m us) (omega arith) in
@@ -122,3 +125,12 @@ module _ (ps ws : List ℕ) where
       no_more : (ts : Terms) → count ts ≡ 0 → ts ≡ none1
       no_more none1 h = refl
       no_more (and1 t ts) h = absurd (omega (arith, h))
+
+  -- all of them, if the last one ends where the words do
+  pub sides_end : (m a z : ℕ) (starts : List ℕ) → SidesAt ps ws m a z starts →
+      SidesRead ps ws m a (then_some (eqb z (length ws)) starts)
+  sides_end m a z starts s = by_end (eqb z (length ws)) refl
+    where
+      by_end : (b : Bool) → eqb z (length ws) ≡ b → SidesRead ps ws m a (then_some b starts)
+      by_end true e = subst (λ (k : ℕ). SidesAt ps ws m a k starts) (eqb-true z (length ws) e) s
+      by_end false e = more_words m a z starts s (eqb-false z (length ws) e)
