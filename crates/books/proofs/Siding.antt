@@ -1,5 +1,5 @@
 -- Sides, one after the other: what a loop over them keeps, and why it stops.
-use Rattle.std.proofs.Common.{◌≡◌, ℕ, zero, suc, ◌+◌, ◌<◌, ◌≤◌, ◌≢◌, ◌⊎◌, List, ◌++◌, length, get_or, drop, set, None, sym, refl, ap, ◌∙◌}
+use Rattle.std.proofs.Common.{◌≡◌, ℕ, zero, suc, ◌+◌, ◌<◌, ◌≤◌, ◌≢◌, ◌⊎◌, List, [], ◌∷◌, ◌++◌, length, get_or, drop, set, None, sym, refl, ap, ◌∙◌}
 use Rattle.std.proofs.Common.{subst, inl, inr, append_assoc, append-nil, arith, length-drop, get_or-set_other, get_or-set_same}
 use Rattle.std.proofs.Common.{Bool, true, false, eqb, eqb-true}
 use Rattle.std.specs.Bool.{then_some}
@@ -32,6 +32,15 @@ nth_last none1 t u (suc i) e = absurd (no_some e)
 nth_last (and1 v ts) t u zero e = inl (omega arith, e)
 nth_last (and1 v ts) t u (suc i) e = elim (nth_last ts t u i e)
     [ inl p ↦ inl (omega (arith, p.0), p.1) | inr p ↦ inr (omega (arith, p.0), p.1) ]
+
+-- what is written behind the first of a list, in front of others
+set_front : (xs ys : List ℕ) (i e : ℕ) → i < length xs → set (xs ++ ys) i e ≡ set xs i e ++ ys
+set_front [] ys i e h = absurd (omega arith)
+set_front (x ∷ xs) ys zero e h = refl
+set_front (x ∷ xs) ys (suc i) e h = ap (λ (zs : List ℕ). x ∷ zs) (set_front xs ys i e (omega arith))
+
+pub set_behind : (x : ℕ) (xs ys : List ℕ) (i e : ℕ) → i < length xs → set (x ∷ (xs ++ ys)) (i + 1) e ≡ x ∷ (set xs i e ++ ys)
+set_behind x xs ys i e h = let d : i + 1 ≡ suc i = omega arith in rw d (ap (λ (zs : List ℕ). x ∷ zs) (set_front xs ys i e h))
 
 module _ (ps ws : List ℕ) where
   pub sides_none : (a : ℕ) (starts : List ℕ) → a ≤ length ws → get_or starts 0 0 ≡ a → SidesAt ps ws 0 a a starts
@@ -127,10 +136,13 @@ module _ (ps ws : List ℕ) where
       no_more (and1 t ts) h = absurd (omega (arith, h))
 
   -- all of them, if the last one ends where the words do
-  pub sides_end : (m a z : ℕ) (starts : List ℕ) → SidesAt ps ws m a z starts →
+  pub sides_end : (n m a z : ℕ) (starts : List ℕ) → n ≡ m → SidesAt ps ws n a z starts →
       SidesRead ps ws m a (then_some (eqb z (length ws)) starts)
-  sides_end m a z starts s = by_end (eqb z (length ws)) refl
+  sides_end n m a z starts d s = by_end (eqb z (length ws)) refl
     where
+      all : SidesAt ps ws m a z starts
+      all = subst (λ (k : ℕ). SidesAt ps ws k a z starts) d s
+
       by_end : (b : Bool) → eqb z (length ws) ≡ b → SidesRead ps ws m a (then_some b starts)
-      by_end true e = subst (λ (k : ℕ). SidesAt ps ws m a k starts) (eqb-true z (length ws) e) s
-      by_end false e = more_words m a z starts s (eqb-false z (length ws) e)
+      by_end true e = subst (λ (k : ℕ). SidesAt ps ws m a k starts) (eqb-true z (length ws) e) all
+      by_end false e = more_words m a z starts all (eqb-false z (length ws) e)

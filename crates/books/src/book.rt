@@ -61,13 +61,13 @@ fn read_sides(parts: &[u32], words: &[u32], from: usize, count: usize) -> Option
     let mut starts = [0; 257];
     starts[0] = from;
     let mut at = from;
-    for i in 0..count {
+    for start in starts[1..=count].iter_mut() {
         let end = term_end(Letters::Small, parts, words, at)?;
         // 32 symbols of two words
         if end > at + 64 {
             return None;
         }
-        starts[i + 1] = end;
+        *start = end;
         at = end;
     }
     (at == words.len()).then_some(starts)

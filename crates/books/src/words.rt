@@ -64,6 +64,7 @@ pub fn terms_end(
     if at > words.len() {
         return None;
     }
+    // Stays a while: it ends with the last pending term and not with the words, and its answer is the place itself.
     let mut pending = count;
     let mut i = at;
     while pending > 0 {
