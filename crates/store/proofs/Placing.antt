@@ -12,8 +12,8 @@ use Rattle.store.specs.declared.types.Order.{Order}
 use Rattle.store.specs.declared.types.Order.TheVariants.{Up, Down}
 use Rattle.store.specs.declared.types.Full.{Full}
 use Rattle.store.specs.Cells.{cell, CellPut}
-use Rattle.store.specs.Slots.{tag_of, arity_of, kind_of, flag_of, note_at, parts_by, term_of, Shared, FitsIn, key_term, Added}
-use Rattle.store.specs.Chains.{Chains, Holds, Pushed}
+use Rattle.store.specs.Slots.{tag_of, arity_of, kind_of, flag_of, note_at, parts_by, Shared, FitsIn, key_term, Added}
+use Rattle.store.specs.Chains.{Chains, Holds, Pushed, OneMore}
 use Rattle.store.specs.Roots.{HasRoots}
 use Rattle.store.specs.Stacks.{root_in, StackedOn, in_order, Gathered}
 use Rattle.store.specs.Stores.{term_in, flag_in, note_in, Grown, NoteKept, new, old, Carried, held, parts_held, Inside}
@@ -23,17 +23,6 @@ use Rattle.store.proofs.Cases.{le_or_lt, below_next}
 use Rattle.store.proofs.Decoding.{added_is, stays, shared_added, shape_added, node_same}
 use Rattle.store.proofs.Telling.{unheld}
 use Rattle.store.proofs.Chaining.{added, chains_added, chains_kept}
-
--- the key is slot c, with no note, after the first c slots as they were
-pub record OneMore (mask : ℕ) (vs : List ℕ) (c : ℕ) (key : Key) (xs : List ℕ) : Type 0 where
-  pub shared : Shared xs (c + 1)
-  pub chains : Chains mask xs (c + 1)
-  pub term : term_of xs c ≡ key_term vs key
-  pub terms : (i : ℕ) → i < c → term_of xs i ≡ term_of vs i
-  pub flags : (i : ℕ) → i < c → flag_of (cell xs i 0) ≡ flag_of (cell vs i 0)
-  pub notes : (i : ℕ) → i < c → note_at xs i ≡ note_at vs i
-  pub new_flags : (i : ℕ) → c ≤ i → i < c + 1 → flag_of (cell xs i 0) ≡ flag_of key.head
-  pub new_notes : (i : ℕ) → c ≤ i → i < c + 1 → note_at xs i ≡ 0
 
 -- it is pushed into ws, and its note cleared in xs
 module _ (mask : ℕ) (vs : List ℕ) (c : ℕ) (key : Key) (ws xs : List ℕ) (w : Shared vs c) (ch : Chains mask vs c) (f : FitsIn key c)

@@ -17,9 +17,10 @@ use Rattle.store.specs.declared.types.Full.{Full}
 use Rattle.store.specs.declared.types.Full.TheVariants.{NoSlot, NoRoot}
 use Rattle.store.specs.Roots.{root_at}
 use Rattle.store.specs.Stacks.{CutTo}
-use Rattle.store.specs.Stores.{Sound, Carried, term_in, held, terms_down, Inside, RootsKept}
+use Rattle.store.specs.Stores.{Carried, term_in, held, terms_down, Inside, RootsKept}
 use Rattle.store.specs.Making.{Made}
 use Rattle.store.specs.Transfers.{RowOf, takes, symbol_term, Readable, Read}
+use Rattle.store.proofs.Sounds.{sound_in}
 use Rattle.store.proofs.Cases.{le_or_lt}
 use Rattle.store.proofs.Placing.{carried_then, carried_grown, grown_same}
 use Rattle.store.proofs.Forests.{after, after_rows, after_over, after_sizes, after_parts, down_same, down_count, down_one, down_split}
@@ -31,7 +32,6 @@ forest k t = after k (and1 t none1)
 
 -- from symbol k on t is read
 pub record SoFar (a : Store) (q : Roots) (t : Term) (k : ℕ) (b : Store) (r : Roots) : Type 0 where
-  pub sound : Sound b
   pub room : b.room ≡ a.room
   pub carried : Carried a b
   pub long : length r.cells.now ≡ length q.cells.now
@@ -126,9 +126,8 @@ turn ps ws a q t n b r few w p l s =
     turn_at ps ws a q t (n - 1) b r few w (omega (arith, symbols w)) (subst (λ (i : ℕ). SoFar a q t i b r) e s)
 
 -- before the first symbol that is read
-pub so_far_none : (a : Store) (q : Roots) (t : Term) (k : ℕ) → Sound a → Inside a q → k ≡ size t → SoFar a q t k a q
-so_far_none a q t k s i e = record {
-  sound = s;
+pub so_far_none : (a : Store) (q : Roots) (t : Term) (k : ℕ) → Inside a q → k ≡ size t → SoFar a q t k a q
+so_far_none a q t k i e = record {
   room = refl;
   carried = carried_grown a a (grown_same a);
   long = refl;
@@ -149,7 +148,6 @@ module _ (ps : List ℕ) (a : Store) (q : Roots) (t : Term) (k : ℕ) (b : Store
       let from1 : r.top - takes ps tag num ≡ q.top + (r.top - q.top - takes ps tag num) = omega (arith, h.enough, s.above) in
       let n : u.top - q.top ≡ suc (r.top - q.top - takes ps tag num) = omega (arith, v.top, h.enough, s.above) in
       record {
-        sound = m.sound;
         room = m.room ∙ s.room;
         carried = carried_then a b d s.carried m.carried;
         long = v.long ∙ s.long;
@@ -220,7 +218,7 @@ pub read_done : (a : Store) (q : Roots) (t : Term) (b : Store) (r : Roots) (x : 
 read_done a q t b r x s =
     let o = down_one b r q.top (r.top - q.top) t s.is in
     record {
-      sound = s.sound;
+      sound = sound_in b;
       room = s.room;
       carried = s.carried;
       roots = record { top = omega (arith, o.0); long = s.long; inside = s.inside; terms = s.kept; term = o.1 };

@@ -1,10 +1,10 @@
 // Chains of slots by hash: finding the slot of a key, and adding one.
-ghost use Rattle.std.specs.Prelude.{◌≡◌, ◌+◌, ◌<◌, ◌≤◌, true, false};
+ghost use Rattle.std.specs.Prelude.{◌≡◌, ◌+◌, ◌<◌, ◌≤◌, true, false, None};
 ghost use Rattle.store.specs.Cells.{HasSlot};
-ghost use Rattle.store.specs.Slots.{kind_of, tag_of, Shape, FitsIn};
-ghost use Rattle.store.specs.Chains.{mix_of, key_bucket, Chains, Found, Holds, Pushed};
+ghost use Rattle.store.specs.Slots.{kind_of, tag_of, Shape, Shared, FitsIn};
+ghost use Rattle.store.specs.Chains.{mix_of, key_bucket, Chains, Found, Holds, Pushed, OneMore};
 
-use crate::slots::{HEAD, LAST, LINK, arity, get, kind, part, put, put_slot};
+use crate::slots::{HEAD, LAST, LINK, NOTE, arity, get, kind, part, put, put_slot};
 use crate::types::Key;
 
 const WORD_BITS: usize = 32;
@@ -73,4 +73,15 @@ pub fn push(ws: &mut [u32], n: usize, mask: usize, key: &Key)
     let last = get(ws, b, LAST);
     put_slot(ws, n, key, last);
     put(ws, b, LAST, n + 1);
+}
+
+// Adds a key that no slot has as slot n, with no note.
+pub fn add(ws: &mut [u32], n: usize, mask: usize, key: &Key)
+    requires shared { (Shared ws.old n) × (Chains mask ws.old n) }
+    requires new { (FitsIn key.now n) × (Found ws.old n key.now None) }
+    requires room { HasSlot ws.old n }
+    ensures { OneMore mask ws.old n key.now ws.new }
+{
+    push(ws, n, mask, key);
+    put(ws, n, NOTE, 0);
 }

@@ -2,14 +2,14 @@
 ghost use Rattle.std.specs.Prelude.{◌≡◌, ℕ, ◌+◌, ◌-◌, ◌*◌, ◌/◌, ◌^◌, ◌<◌, ◌≤◌, false, length, Some};
 ghost use Rattle.rewriting.specs.Terms.{letter, sign};
 ghost use Rattle.store.specs.Slots.{kind_of, tag_of, arity_of, flag_of, FitsIn, key_term};
-ghost use Rattle.store.specs.Chains.{Found};
-ghost use Rattle.store.specs.Stores.{Sound, Grown, Carried, Inside, RootsKept, terms_up, terms_down};
+ghost use Rattle.store.specs.Chains.{Chains, Found};
+ghost use Rattle.store.specs.Stores.{Grown, Carried, Inside, RootsKept, terms_up, terms_down};
 ghost use Rattle.store.specs.Making.{Opened, Interned, KeptOnly, root_term, Placed, Made, Reserved};
 ghost use Rattle.store.specs.Making.{PartsInside, SignShared, LetterShared, Emptied};
 
-use crate::chains::{find, push};
+use crate::chains::{add, find};
 use crate::collect::compact;
-use crate::slots::{LAST, NOTE, SLOT, clear, letter_head, put, sign_head};
+use crate::slots::{LAST, SLOT, clear, letter_head, sign_head};
 use crate::types::{Full, Key, Order, Place, Roots, Store};
 
 // How many slots a store has before its first collection, so that short work stays in the cache.
@@ -32,6 +32,16 @@ fn mask_below(n: usize) -> usize
     mask
 }
 
+// Empties the buckets of a store with this limit; says what their mask is.
+fn empty(ws: &mut [u32], limit: usize) -> usize
+    requires { (16 * limit ≤ length ws.old) × (0 < limit) }
+    ensures { Chains result ws.new 0 }
+{
+    let mask = mask_below(limit);
+    clear(ws, mask + 1, LAST);
+    mask
+}
+
 impl<'a> Store<'a> {
     // A store with nothing in it, if there are words for a slot.
     pub fn open(words: &'a mut [u32]) -> Option<Store<'a>>
@@ -41,42 +51,31 @@ impl<'a> Store<'a> {
         if room == 0 {
             return None;
         }
-        let mut store = Store {
+        let limit = room.min(FIRST_LIMIT);
+        let mask = empty(words, limit);
+        Some(Store {
             words,
             room,
-            limit: room,
-            mask: 0,
+            limit,
+            mask,
             count: 0,
-        };
-        store.empty(FIRST_LIMIT);
-        Some(store)
+        })
     }
 }
 
 impl Store<'_> {
-    // Drops all terms, and sets a limit, or all the room if that is less.
-    fn empty(&mut self, limit: usize)
-        requires { (16 * self.old.room ≤ length self.old.words.now) × ((0 < self.old.room) × (0 < limit)) }
-        ensures { Emptied self.old limit self.new }
+    // Drops all terms. The limit is small then, whatever it was.
+    pub fn clear(&mut self)
+        ensures { Emptied self.old 512 self.new }
     {
-        let limit = self.room.min(limit);
-        let mask = mask_below(limit);
-        clear(self.words, mask + 1, LAST);
+        let limit = self.room.min(CLEARED_LIMIT);
+        self.mask = empty(self.words, limit);
         self.limit = limit;
-        self.mask = mask;
         self.count = 0;
     }
 
-    // Drops all terms. The limit is small then, whatever it was.
-    pub fn clear(&mut self)
-        requires { Sound self.old }
-        ensures { Emptied self.old 512 self.new }
-    {
-        self.empty(CLEARED_LIMIT);
-    }
-
     fn find(&self, key: &Key) -> Option<usize>
-        requires { (Sound self.now) × (FitsIn key.now self.now.count) }
+        requires { FitsIn key.now self.now.count }
         ensures { Found self.now.words.now self.now.count key.now result }
     {
         find(self.words, self.count, self.mask, key)
@@ -84,8 +83,7 @@ impl Store<'_> {
 
     // The place of a key's term, which is added if there is none; none at the limit.
     fn intern(&mut self, key: &Key) -> Option<Place>
-        requires { (Sound self.old) × ((FitsIn key.now self.old.count) × (flag_of key.now.head ≡ false)) }
-        ensures sound { Sound self.new }
+        requires { (FitsIn key.now self.old.count) × (flag_of key.now.head ≡ false) }
         ensures grown { Grown self.old self.new }
         ensures few { self.new.count ≤ self.old.count + 1 }
         ensures place { Interned self.old self.new
@@ -96,12 +94,10 @@ impl Store<'_> {
             return Some(Place(i));
         }
         let n = self.count;
-        let mask = self.mask;
         if n >= self.limit {
             return None;
         }
-        push(self.words, n, mask, key);
-        put(self.words, n, NOTE, 0);
+        add(self.words, n, self.mask, key);
         self.count = n + 1;
         Some(Place(n))
     }
@@ -109,7 +105,7 @@ impl Store<'_> {
     // Keeps what the roots hold and drops the rest. If that is more than a quarter of the limit, the limit is doubled, as far as there is
     // room.
     pub fn collect(&mut self, roots: &mut Roots)
-        requires { (Sound self.old) × (Inside self.old roots.old) }
+        requires { Inside self.old roots.old }
         ensures { KeptOnly self.old roots.old self.new roots.new }
     {
         let count = self.count;
@@ -127,9 +123,8 @@ impl Store<'_> {
 
     // The place of the term with this head and the roots from one on as parts; none if what the roots hold fills the store.
     fn place(&mut self, roots: &mut Roots, head: usize, from: usize, order: Order) -> Option<Place>
-        requires sound_2 { (Sound self.old) × ((Inside self.old roots.old) × (flag_of head ≡ false)) }
+        requires inside { (Inside self.old roots.old) × (flag_of head ≡ false) }
         requires head_bound { (tag_of (kind_of head) ≤ 5) × (from + arity_of (kind_of head) ≡ roots.old.top) }
-        ensures sound { Sound self.new }
         ensures room { self.new.room ≡ self.old.room }
         ensures carried { Carried self.old self.new }
         ensures roots { RootsKept self.old roots.old self.new roots.new }
@@ -153,7 +148,7 @@ impl Store<'_> {
         from: usize,
         order: Order,
     ) -> Result<(), Full>
-        requires sound { (Sound self.old) × ((Inside self.old roots.old) × (flag_of head ≡ false)) }
+        requires inside { (Inside self.old roots.old) × (flag_of head ≡ false) }
         requires head_bound { (tag_of (kind_of head) ≤ 5) × (from + arity_of (kind_of head) ≡ roots.old.top) }
         ensures { Made self.old roots.old from
             (root_term self.old head roots.old order from)
@@ -173,7 +168,7 @@ impl Store<'_> {
 
     // One more root, which holds a letter.
     pub fn make_letter(&mut self, roots: &mut Roots, x: u32) -> Result<(), Full>
-        requires { (Sound self.old) × (Inside self.old roots.old) }
+        requires { Inside self.old roots.old }
         ensures { Made self.old roots.old roots.old.top (letter x)
             self.new roots.new result }
     {
@@ -183,7 +178,7 @@ impl Store<'_> {
 
     // A sign with the last n roots as parts, in their place. The lowest is the first part.
     pub fn make_sign(&mut self, roots: &mut Roots, f: u32, n: usize) -> Result<(), Full>
-        requires { (Sound self.old) × ((Inside self.old roots.old) × ((n ≤ 4) × (n ≤ roots.old.top))) }
+        requires { (Inside self.old roots.old) × ((n ≤ 4) × (n ≤ roots.old.top)) }
         ensures { Made self.old roots.old (roots.old.top - n)
             (sign f (terms_up self.old roots.old (roots.old.top - n) n))
             self.new roots.new result }
@@ -194,7 +189,7 @@ impl Store<'_> {
 
     // The same, with the uppermost root as the first part.
     pub fn make_sign_down(&mut self, roots: &mut Roots, f: u32, n: usize) -> Result<(), Full>
-        requires { (Sound self.old) × ((Inside self.old roots.old) × ((n ≤ 4) × (n ≤ roots.old.top))) }
+        requires { (Inside self.old roots.old) × ((n ≤ 4) × (n ≤ roots.old.top)) }
         ensures { Made self.old roots.old (roots.old.top - n)
             (sign f (terms_down self.old roots.old (roots.old.top - n) n))
             self.new roots.new result }
@@ -203,25 +198,29 @@ impl Store<'_> {
         self.make(roots, sign_head(f, n), from, Order::Down)
     }
 
-    // Sees to it that n more slots are below the limit, by a collection if need be; no if what the roots hold leaves no room for them.
-    pub fn reserve(&mut self, roots: &mut Roots, n: usize) -> bool
-        requires { (Sound self.old) × (Inside self.old roots.old) }
+    // Sees to it that n more slots are below the limit, by a collection if need be; refused if what the roots hold leaves no room for them.
+    pub fn reserve(&mut self, roots: &mut Roots, n: usize) -> Result<(), Full>
+        requires { Inside self.old roots.old }
         ensures { Reserved self.old roots.old n self.new roots.new result }
     {
         if n <= self.limit - self.count {
-            return true;
+            return Ok(());
         }
         self.collect(roots);
         if n <= self.limit - self.count {
-            return true;
+            return Ok(());
         }
         self.limit = self.room;
-        n <= self.room - self.count
+        if n <= self.room - self.count {
+            Ok(())
+        } else {
+            Err(Full::NoSlot)
+        }
     }
 
     // The place of a letter, below the limit.
     pub fn share_letter(&mut self, x: u32) -> Place
-        requires { (Sound self.old) × (self.old.count < self.old.limit) }
+        requires { self.old.count < self.old.limit }
         ensures { LetterShared self.old x self.new result }
     {
         let key = Key {
@@ -233,7 +232,7 @@ impl Store<'_> {
 
     // The place of the sign f with the first n places as parts, below the limit.
     pub fn share_sign(&mut self, f: u32, parts: [Place; 4], n: usize) -> Place
-        requires { (Sound self.old) × ((n ≤ 4) × ((PartsInside self.old parts n) × (self.old.count < self.old.limit))) }
+        requires { (n ≤ 4) × ((PartsInside self.old parts n) × (self.old.count < self.old.limit)) }
         ensures shared { SignShared self.old f parts n self.new result }
         ensures new { (i : ℕ) → self.old.count ≤ i → i < self.new.count → i ≡ result.0 }
     {

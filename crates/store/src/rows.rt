@@ -3,7 +3,7 @@ ghost use Rattle.std.specs.Prelude.{◌≡◌, ◌+◌, ◌-◌, ◌<◌, ◌≤
 ghost use Rattle.rewriting.specs.Terms.{Term};
 ghost use Rattle.books.specs.Layouts.{FewParts};
 ghost use Rattle.store.specs.Roots.{HasRoots};
-ghost use Rattle.store.specs.Stores.{Sound, term_in, arity_in, Inside};
+ghost use Rattle.store.specs.Stores.{term_in, arity_in, Inside};
 ghost use Rattle.store.specs.Making.{Made};
 ghost use Rattle.store.specs.Transfers.{RowOf, takes, symbol_term, Readable, Read};
 ghost use Rattle.store.specs.Transfers.{PartsOrFull, SymbolOrShort, RootsBelow, WrittenOrShort};
@@ -19,7 +19,7 @@ impl Store<'_> {
         tag: u32,
         number: u32,
     ) -> Result<(), Full>
-        requires { (Sound self.old) × ((Inside self.old roots.old) × (Readable parts.now roots.old tag number)) }
+        requires { (Inside self.old roots.old) × (Readable parts.now roots.old tag number) }
         ensures { Made self.old roots.old (roots.old.top - takes parts.now tag number)
             (symbol_term self.old roots.old (takes parts.now tag number) tag number)
             self.new roots.new result }
@@ -32,7 +32,7 @@ impl Store<'_> {
 
     // Reads a row over a signature, from its end to its start: one more root holds its term.
     pub fn read_row(&mut self, roots: &mut Roots, parts: &[u32], words: &[u32]) -> Result<(), Full>
-        requires sound { (Sound self.old) × ((Inside self.old roots.old) × (FewParts parts.now)) }
+        requires inside { (Inside self.old roots.old) × (FewParts parts.now) }
         requires row_of { (t : Term) × RowOf parts.now words.now t }
         ensures { (t : Term) → RowOf parts.now words.now t →
             Read self.old roots.old t self.new roots.new result }
@@ -49,7 +49,7 @@ impl Store<'_> {
 
     // Puts the parts of the sign at a place on the roots, so that the first is uppermost.
     pub fn push_parts(&self, roots: &mut Roots, p: Place, n: usize) -> Result<(), Full>
-        requires sound { (Sound self.now) × ((p.0 < self.now.count) × (n ≡ arity_in self.now p.0)) }
+        requires parts { (p.0 < self.now.count) × (n ≡ arity_in self.now p.0) }
         requires has_roots { HasRoots roots.old.cells.now roots.old.top }
         ensures { PartsOrFull self.now roots.old p.0 n roots.new result }
     {
@@ -63,7 +63,7 @@ impl Store<'_> {
 
     // Writes the symbol of the uppermost root, and puts its parts in its place.
     fn write_symbol(&self, roots: &mut Roots, out: &mut [u32], at: usize) -> Result<(), Short>
-        requires { (Sound self.now) × ((Inside self.now roots.old) × ((0 < roots.old.top) × (at ≤ length out.old))) }
+        requires { (Inside self.now roots.old) × ((0 < roots.old.top) × (at ≤ length out.old)) }
         ensures below { RootsBelow (roots.old.top - 1) roots.old roots.new }
         ensures symbol { SymbolOrShort self.now roots.old out.old at
             roots.new out.new result }
@@ -93,7 +93,7 @@ impl Store<'_> {
 
     // Writes the row of the term at a place, and says how many words that is. The cells above the roots are used on the way.
     pub fn write_row(&self, roots: &mut Roots, p: Place, out: &mut [u32]) -> Result<usize, Short>
-        requires { (Sound self.now) × ((Inside self.now roots.old) × (p.0 < self.now.count)) }
+        requires { (Inside self.now roots.old) × (p.0 < self.now.count) }
         ensures top { roots.new.top ≡ roots.old.top }
         ensures below { RootsBelow roots.old.top roots.old roots.new }
         ensures written { WrittenOrShort roots.old (term_in self.now p.0) out.old

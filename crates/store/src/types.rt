@@ -1,4 +1,7 @@
 // The types: a store of shared terms, and the stack of roots that says which are kept.
+ghost use Rattle.std.specs.Prelude.{◌*◌, ◌<◌, ◌≤◌, length};
+ghost use Rattle.store.specs.Slots.{Shared};
+ghost use Rattle.store.specs.Chains.{Chains};
 
 // A store in lent words, with `room` slots. The first `count` are in use, each for another term; at `limit` of them it is collected.
 // Buckets are numbered up to `mask`, a number of the form 2^k - 1.
@@ -9,6 +12,12 @@ pub struct Store<'a> {
     pub limit: usize,
     pub mask: usize,
     pub count: usize,
+    pub ghost shared: { Shared words.now count },
+    pub ghost chains: { Chains mask words.now count },
+    pub ghost fits: { 16 * room ≤ length words.now },
+    pub ghost within: { count ≤ limit },
+    pub ghost limited: { limit ≤ room },
+    pub ghost some: { 0 < limit },
 }
 
 // A stack of places in lent words: their terms are kept. After a collection any other place is another term's, or none's.

@@ -8,7 +8,7 @@ use Rattle.store.proofs.types.Store.write_symbol.Goals as goal
 pub returns-in-Ok : goal.returns-in-Ok
 returns-in-Ok c =
     let a = c.args.self.now in let q = c.args.roots.now in let u = c.truncate.new.self in let r = c.push_parts.new.roots in
-    let p = c.place-p.result.0 in let f = c.in-Sign.f in let n = c.in-Sign.n in let i = c.requires.1.0 in
+    let p = c.place-p.result.0 in let f = c.in-Sign.f in let n = c.in-Sign.n in let i = c.requires.0 in
     let h = c.in-Ok.ensures in
     let e : held a q (q.top - 1) ≡ sign f (parts_in a p n) = ap (λ (x : ℕ). term_in a x) (sym c.place-p.ensures)
     ∙ c.in-Sign.ensures.2 in
@@ -24,7 +24,7 @@ returns-in-Ok c =
 pub returns-in-Err : goal.returns-in-Err
 returns-in-Err c =
     let a = c.args.self.now in let q = c.args.roots.now in let u = c.truncate.new.self in let r = c.push_parts.new.roots in
-    let p = c.place-p.result.0 in let f = c.in-Sign.f in let n = c.in-Sign.n in let i = c.requires.1.0 in
+    let p = c.place-p.result.0 in let f = c.in-Sign.f in let n = c.in-Sign.n in let i = c.requires.0 in
     let h = c.in-Err.ensures in let cut = c.truncate.ensures in
     let e : held a q (q.top - 1) ≡ sign f (parts_in a p n) = ap (λ (x : ℕ). term_in a x) (sym c.place-p.ensures)
     ∙ c.in-Sign.ensures.2 in
