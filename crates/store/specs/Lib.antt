@@ -1,4 +1,5 @@
 -- Shared terms in lent words: the definitions that the contracts cite.
+pub mod Numbers
 pub mod Cells
 pub mod Slots
 pub mod Chains

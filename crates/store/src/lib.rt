@@ -4,6 +4,7 @@
 mod chains;
 mod collect;
 mod make;
+mod numbers;
 mod roots;
 mod rows;
 mod slots;

@@ -4,7 +4,8 @@ ghost use Rattle.store.specs.Slots.{kind_of, tag_of, arity_of};
 ghost use Rattle.store.specs.Roots.{root_at, HasRoots, RootPut};
 ghost use Rattle.store.specs.Stacks.{root_in, StackedOn, PushedOrFull, RootSet, CutTo, in_order, Gathered};
 
-use crate::slots::{WORD, arity, kind};
+use crate::numbers::{number_at, put_number};
+use crate::slots::{arity, kind};
 use crate::types::{Full, Key, Order, Place, Roots};
 
 // Root k.
@@ -12,15 +13,14 @@ pub fn root(cells: &[u32], k: usize) -> usize
     requires { HasRoots cells.now (k + 1) }
     ensures { result ≡ root_at cells.now k }
 {
-    cells[2 * k] as usize + WORD * (cells[2 * k + 1] as usize)
+    number_at(cells, 2 * k)
 }
 
 pub fn set_root(cells: &mut [u32], k: usize, v: usize)
     requires { HasRoots cells.old (k + 1) }
     ensures { RootPut cells.old k v cells.new }
 {
-    cells[2 * k] = (v % WORD) as u32;
-    cells[2 * k + 1] = (v / WORD) as u32;
+    put_number(cells, 2 * k, v);
 }
 
 impl Order {

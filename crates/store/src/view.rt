@@ -3,7 +3,8 @@ ghost use Rattle.std.specs.Prelude.{◌≡◌, ◌+◌, ◌-◌, ◌<◌, true, 
 ghost use Rattle.store.specs.Cells.{cell};
 ghost use Rattle.store.specs.Stores.{term_in, arity_in, part_in, flag_in, note_in, note_of, Shows, FlagSet, NoteSet};
 
-use crate::slots::{FLAG, HEAD, NOTE, WORD, arity, get, kind, part, put, symbol};
+use crate::numbers::WORD;
+use crate::slots::{FLAG, HEAD, NOTE, arity, get, kind, part, put, symbol};
 use crate::types::{Node, Place, Store};
 
 impl Store<'_> {
