@@ -1,5 +1,5 @@
 -- Roots: a number of two words for each.
-use Rattle.std.specs.Prelude.{◌≡◌, ℕ, ◌+◌, ◌*◌, ◌≤◌, List, length, ◌≢◌}
+use Rattle.std.specs.Prelude.{◌≡◌, ℕ, ◌*◌, ◌≤◌, List, length, ◌≢◌}
 use Rattle.store.specs.Numbers.{number_in}
 
 unfoldable pub root_at : List ℕ → ℕ → ℕ

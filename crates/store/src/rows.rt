@@ -9,25 +9,20 @@ ghost use Rattle.store.specs.Transfers.{RowOf, takes, symbol_term, Readable, Rea
 ghost use Rattle.store.specs.Transfers.{PartsOrFull, SymbolOrShort, RootsBelow, WrittenOrShort};
 
 use crate::types::{Full, Node, Place, Roots, Short, Store};
+use books::words::{Symbol, symbol_at};
 
 impl Store<'_> {
     // Makes the term of a symbol whose parts stand on the roots, the first uppermost.
-    fn read_symbol(
-        &mut self,
-        roots: &mut Roots,
-        parts: &[u32],
-        tag: u32,
-        number: u32,
-    ) -> Result<(), Full>
-        requires { (Inside self.old roots.old) × (Readable parts.now roots.old tag number) }
-        ensures { Made self.old roots.old (roots.old.top - takes parts.now tag number)
-            (symbol_term self.old roots.old (takes parts.now tag number) tag number)
+    fn read_symbol(&mut self, roots: &mut Roots, parts: &[u32], symbol: Symbol) -> Result<(), Full>
+        requires { (Inside self.old roots.old) × (Readable parts.now roots.old symbol) }
+        ensures { Made self.old roots.old (roots.old.top - takes parts.now symbol)
+            (symbol_term self.old roots.old (takes parts.now symbol) symbol)
             self.new roots.new result }
     {
-        if tag == 0 {
-            return self.make_letter(roots, number);
+        match symbol {
+            Symbol::Letter(x) => self.make_letter(roots, x),
+            Symbol::Sign(f) => self.make_sign_down(roots, f, parts[f as usize] as usize),
         }
-        self.make_sign_down(roots, number, parts[number as usize] as usize)
     }
 
     // Reads a row over a signature, from its end to its start: one more root holds its term.
@@ -39,7 +34,8 @@ impl Store<'_> {
     {
         let base = roots.top;
         for k in (0..words.len() / 2).rev() {
-            if let Err(full) = self.read_symbol(roots, parts, words[2 * k], words[2 * k + 1]) {
+            let symbol = symbol_at(words, 2 * k).unwrap();
+            if let Err(full) = self.read_symbol(roots, parts, symbol) {
                 roots.truncate(base);
                 return Err(full);
             }
@@ -54,9 +50,7 @@ impl Store<'_> {
         ensures { PartsOrFull self.now roots.old p.0 n roots.new result }
     {
         for k in (0..n).rev() {
-            if let Err(full) = roots.push(self.part(p, k)) {
-                return Err(full);
-            }
+            roots.push(self.part(p, k))?;
         }
         Ok(())
     }
@@ -83,10 +77,8 @@ impl Store<'_> {
             Node::Sign(f, n) => {
                 out[at] = 1;
                 out[at + 1] = f;
-                match self.push_parts(roots, p, n) {
-                    Ok(()) => Ok(()),
-                    Err(_) => Err(Short::NoCell),
-                }
+                self.push_parts(roots, p, n)?;
+                Ok(())
             }
         }
     }
@@ -100,9 +92,7 @@ impl Store<'_> {
             out.new result }
     {
         let base = roots.top;
-        if let Err(_) = roots.push(p) {
-            return Err(Short::NoCell);
-        }
+        roots.push(p)?;
         let mut at = 0;
         while roots.top > base {
             if let Err(short) = self.write_symbol(roots, out, at) {

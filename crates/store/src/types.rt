@@ -1,7 +1,8 @@
 // The types: a store of shared terms, and the stack of roots that says which are kept.
-ghost use Rattle.std.specs.Prelude.{◌*◌, ◌<◌, ◌≤◌, length};
+ghost use Rattle.std.specs.Prelude.{◌≡◌, ◌*◌, ◌<◌, ◌≤◌, length};
 ghost use Rattle.store.specs.Slots.{Shared};
 ghost use Rattle.store.specs.Chains.{Chains};
+ghost use Rattle.store.specs.declared.types.Short.TheVariants.{NoCell};
 
 // A store in lent words, with `room` slots. The first `count` are in use, each for another term; at `limit` of them it is collected.
 // Buckets are numbered up to `mask`, a number of the form 2^k - 1.
@@ -57,6 +58,15 @@ pub enum Full {
 pub enum Short {
     NoWord,
     NoCell,
+}
+
+// Only cells for roots can be wanting where no term is made.
+impl From<Full> for Short {
+    ghost from_gives = { λ _ s. s ≡ NoCell };
+
+    fn from(_full: Full) -> Short {
+        Short::NoCell
+    }
 }
 
 // What a slot is found by: its head and the numbers of its parts' slots.

@@ -1,5 +1,5 @@
 -- The flag stands above the kind, and changes nothing else.
-use Rattle.std.proofs.Common.{◌≡◌, ℕ, ◌+◌, refl, ap, ◌∙◌, arith}
+use Rattle.std.proofs.Common.{ℕ, ◌+◌, refl, ap, ◌∙◌, arith}
 use Rattle.store.specs.Slots.{kind_of}
 use Rattle.store.proofs.Sounds.{sound_in}
 use Rattle.store.proofs.Viewing.{kind_low, flagged}
