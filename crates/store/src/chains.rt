@@ -1,11 +1,11 @@
 // Chains of slots by hash: finding the slot of a key, and adding one.
 ghost use Rattle.std.specs.Prelude.{◌≡◌, ◌+◌, ◌<◌, ◌≤◌, true, false, None};
 ghost use Rattle.store.specs.Cells.{HasSlot};
-ghost use Rattle.store.specs.Slots.{kind_of, tag_of, Shape, Shared, FitsIn};
+ghost use Rattle.store.specs.Slots.{kind_of, tag_of, Shared, FitsIn};
 ghost use Rattle.store.specs.Chains.{mix_of, key_bucket, Chains, Found, Holds, Pushed, OneMore};
 
 use crate::slots::{HEAD, LAST, LINK, NOTE, arity, get, kind, part, put, put_slot};
-use crate::types::Key;
+use crate::types::{Key, Store};
 
 const WORD_BITS: usize = 32;
 
@@ -49,20 +49,24 @@ fn holds(ws: &[u32], i: usize, key: &Key) -> bool
     true
 }
 
-// The slot of a key, among the first `count`.
-pub fn find(ws: &[u32], count: usize, mask: usize, key: &Key) -> Option<usize>
-    requires { (Shape ws.now count) × ((Chains mask ws.now count) × (FitsIn key.now count)) }
-    ensures { Found ws.now count key.now result }
-{
-    let mut next = get(ws, bucket(mask, key), LAST);
-    while next != 0 {
-        if holds(ws, next - 1, key) {
-            return Some(next - 1);
+impl Store<'_> {
+    // The slot of a key.
+    pub(crate) fn find(&self, key: &Key) -> Option<usize>
+        requires { FitsIn key.now self.now.count }
+        ensures { Found self.now.words.now self.now.count key.now result }
+    {
+        let mut next = get(self.words, bucket(self.mask, key), LAST);
+        while next != 0 {
+            if holds(self.words, next - 1, key) {
+                return Some(next - 1);
+            }
+            next = get(self.words, next - 1, LINK);
         }
-        next = get(ws, next - 1, LINK);
+        None
     }
-    None
 }
+
+// What follows stays over words, a number of slots and a mask: between these writes the words are no store.
 
 // Writes a key into slot n, at the end of its bucket.
 pub fn push(ws: &mut [u32], n: usize, mask: usize, key: &Key)

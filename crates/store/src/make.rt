@@ -7,7 +7,7 @@ ghost use Rattle.store.specs.Stores.{Grown, Carried, Inside, RootsKept, terms_up
 ghost use Rattle.store.specs.Making.{Opened, Interned, KeptOnly, root_term, Placed, Made, Reserved};
 ghost use Rattle.store.specs.Making.{PartsInside, SignShared, LetterShared, Emptied};
 
-use crate::chains::{add, find};
+use crate::chains::add;
 use crate::collect::compact;
 use crate::slots::{LAST, SLOT, clear, letter_head, sign_head};
 use crate::types::{Full, Key, Order, Place, Roots, Store};
@@ -74,13 +74,6 @@ impl Store<'_> {
         self.count = 0;
     }
 
-    fn find(&self, key: &Key) -> Option<usize>
-        requires { FitsIn key.now self.now.count }
-        ensures { Found self.now.words.now self.now.count key.now result }
-    {
-        find(self.words, self.count, self.mask, key)
-    }
-
     // The place of a key's term, which is added if there is none; none at the limit.
     fn intern(&mut self, key: &Key) -> Option<Place>
         requires { (FitsIn key.now self.old.count) × (flag_of key.now.head ≡ false) }
@@ -108,16 +101,12 @@ impl Store<'_> {
         requires { Inside self.old roots.old }
         ensures { KeptOnly self.old roots.old self.new roots.new }
     {
-        let count = self.count;
-        let limit = self.limit;
-        let larger = self.room.min(2 * limit);
-        let mask = mask_below(limit);
-        let top = roots.top;
-        let n = compact(self.words, count, mask, roots.cells, top);
-        self.count = n;
+        let mask = mask_below(self.limit);
+        let n = compact(self.words, self.count, mask, roots);
         self.mask = mask;
-        if n > limit / 4 {
-            self.limit = larger;
+        self.count = n;
+        if n > self.limit / 4 {
+            self.limit = self.room.min(2 * self.limit);
         }
     }
 
