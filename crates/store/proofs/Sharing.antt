@@ -20,23 +20,13 @@ use Rattle.store.proofs.Viewing.{node_sign}
 abbrev zero_place : Place
 zero_place = record { 0 = 0 }
 
--- the numbers of four places
-abbrev pub numbers : List Place → List ℕ
-numbers ps = (get_or ps 0 zero_place).0 ∷ (get_or ps 1 zero_place).0 ∷ (get_or ps 2 zero_place).0 ∷ (get_or ps 3 zero_place).0 ∷ []
-
-pub number_at : (ps : List Place) (k : ℕ) → k < 4 → get_or (numbers ps) k 0 ≡ (get_or ps k zero_place).0
-number_at ps zero l = refl
-number_at ps (suc zero) l = refl
-number_at ps (suc (suc zero)) l = refl
-number_at ps (suc (suc (suc zero))) l = refl
-number_at ps (suc (suc (suc (suc k)))) l = absurd (omega arith)
-
--- the sign with them as parts
-pub sign_of : (a : Store) (head f : ℕ) (ps : List Place) (n : ℕ) → n ≤ 4 → tag_of (kind_of head) ≡ n + 1 → symbol_of (kind_of head) ≡ f →
-    node (λ j. term_in a j) (kind_of head) (λ k. get_or (numbers ps) k 0) ≡ sign f (terms_at a ps n)
-sign_of a head f ps n l t s = node_sign (λ j. term_in a j) (kind_of head) (λ k. get_or (numbers ps) k 0) f n t s
-    ∙ ap (sign f) (parts_by_same (λ j. term_in a j) (λ j. term_in a j) (λ k. get_or (numbers ps) k 0) (λ k. (get_or ps k zero_place).0) 0 n
-    (λ k h i. ap (λ (j : ℕ). term_in a j) (number_at ps k (omega arith))))
+-- the sign with the places of these numbers as parts
+pub sign_of : (a : Store) (head f : ℕ) (ps : List Place) (ns : List ℕ) (n : ℕ) → ((k : ℕ) → k < n → get_or ns k 0 ≡ (get_or ps k zero_place).0) →
+    tag_of (kind_of head) ≡ n + 1 → symbol_of (kind_of head) ≡ f →
+    node (λ j. term_in a j) (kind_of head) (λ k. get_or ns k 0) ≡ sign f (terms_at a ps n)
+sign_of a head f ps ns n h t s = node_sign (λ j. term_in a j) (kind_of head) (λ k. get_or ns k 0) f n t s
+    ∙ ap (sign f) (parts_by_same (λ j. term_in a j) (λ j. term_in a j) (λ k. get_or ns k 0) (λ k. (get_or ps k zero_place).0) 0 n
+    (λ k l i. ap (λ (j : ℕ). term_in a j) (h k (omega arith))))
 
 -- a place that was found or added
 pub found_at : (a b : Store) (t u : Term) (x : Option Place) (p : Place) → x ≡ Some p → Interned a b t x → t ≡ u →

@@ -26,8 +26,8 @@ fn bucket(mask: usize, key: &Key) -> usize
 {
     let kind = kind(key.head);
     let mut h = mix(kind, 0);
-    for k in 0..arity(kind) {
-        h = mix(h, key.parts[k]);
+    for &p in &key.parts[..arity(kind)] {
+        h = mix(h, p);
     }
     h >> WORD_BITS & mask
 }
@@ -41,8 +41,8 @@ fn holds(ws: &[u32], i: usize, key: &Key) -> bool
     if kind(get(ws, i, HEAD)) != kind(key.head) {
         return false;
     }
-    for k in 0..arity(kind(key.head)) {
-        if part(ws, i, k) != key.parts[k] {
+    for (k, &p) in key.parts[..arity(kind(key.head))].iter().enumerate() {
+        if part(ws, i, k) != p {
             return false;
         }
     }

@@ -9,6 +9,8 @@ ghost use Rattle.store.specs.Slides.{Translated, Slid, Collected};
 ghost use Rattle.store.specs.Roots.{HasRoots};
 ghost use Rattle.store.specs.Stacks.{root_in, RootsIn, RootsMoved};
 
+use std::array;
+
 use crate::chains::push;
 use crate::slots::{HEAD, LAST, NOTE, arity_at, clear, get, part, put};
 use crate::types::{Key, Place, Roots};
@@ -80,12 +82,7 @@ fn translated(ws: &[u32], i: usize) -> Key
     let n = arity_at(ws, i);
     Key {
         head: get(ws, i, HEAD),
-        parts: [
-            moved_part(ws, i, n, 0),
-            moved_part(ws, i, n, 1),
-            moved_part(ws, i, n, 2),
-            moved_part(ws, i, n, 3),
-        ],
+        parts: array::from_fn(|k| moved_part(ws, i, n, k)),
     }
 }
 

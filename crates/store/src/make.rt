@@ -25,11 +25,7 @@ fn mask_below(n: usize) -> usize
     ensures half { n ≤ 2 * result + 2 }
     ensures form { (k : ℕ) × (result + 1 ≡ 2 ^ k) }
 {
-    let mut mask = 0usize;
-    while mask < n - 1 - mask {
-        mask = 2 * mask + 1;
-    }
-    mask
+    (1 << n.ilog2()) - 1
 }
 
 // Empties the buckets of a store with this limit; says what their mask is.
@@ -227,7 +223,7 @@ impl Store<'_> {
     {
         let key = Key {
             head: sign_head(f, n),
-            parts: [parts[0].0, parts[1].0, parts[2].0, parts[3].0],
+            parts: parts.map(|p| p.0),
         };
         self.intern(&key).unwrap()
     }

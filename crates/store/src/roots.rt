@@ -4,6 +4,8 @@ ghost use Rattle.store.specs.Slots.{kind_of, tag_of, arity_of};
 ghost use Rattle.store.specs.Roots.{root_at, HasRoots, RootPut};
 ghost use Rattle.store.specs.Stacks.{root_in, StackedOn, PushedOrFull, RootSet, CutTo, in_order, Gathered};
 
+use std::array;
+
 use crate::numbers::{number_at, put_number};
 use crate::slots::{arity, kind};
 use crate::types::{Full, Key, Order, Place, Roots};
@@ -97,11 +99,10 @@ impl Roots<'_> {
         requires { (tag_of (kind_of head) ≤ 5) × (HasRoots self.now.cells.now (from + arity_of (kind_of head))) }
         ensures { Gathered head self.now order from result }
     {
-        let mut parts = [0; 4];
         let n = arity(kind(head));
-        for k in 0..n {
-            parts[k] = self.place(order.at(from, n, k)).0;
-        }
+        let parts = array::from_fn(|k| {
+            if k < n { self.place(order.at(from, n, k)).0 } else { 0 }
+        });
         Key { head, parts }
     }
 }

@@ -106,8 +106,8 @@ fn put_parts(ws: &mut [u32], n: usize, ps: &[usize; 4])
     requires { HasSlot ws.old n }
     ensures { PartsWritten ws.old n ps.now 4 ws.new }
 {
-    for k in 0..4 {
-        put(ws, n, k + PARTS, ps[k]);
+    for (k, &p) in ps.iter().enumerate() {
+        put(ws, n, k + PARTS, p);
     }
 }
 
