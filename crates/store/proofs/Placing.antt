@@ -7,12 +7,13 @@ use Rattle.rewriting.proofs.Different.{listed_same}
 use Rattle.store.specs.declared.types.Store.{Store}
 use Rattle.store.specs.declared.types.Roots.{Roots}
 use Rattle.store.specs.declared.types.Place.{Place}
-use Rattle.store.specs.declared.types.Key.{Key}
+use Rattle.store.specs.declared.keys.Key.{Key}
 use Rattle.store.specs.declared.types.Order.{Order}
 use Rattle.store.specs.declared.types.Order.TheVariants.{Up, Down}
 use Rattle.store.specs.declared.types.Full.{Full}
 use Rattle.store.specs.Cells.{cell, CellPut}
-use Rattle.store.specs.Slots.{tag_of, arity_of, kind_of, flag_of, note_at, parts_by, Shared, FitsIn, key_term, Added}
+use Rattle.store.specs.Slots.{tag_of, arity_of, kind_of, flag_of, note_at, parts_by, Shared}
+use Rattle.store.specs.Keys.{FitsIn, key_term, Added}
 use Rattle.store.specs.Chains.{Chains, Holds, Pushed, OneMore}
 use Rattle.store.specs.Roots.{HasRoots}
 use Rattle.store.specs.Stacks.{root_in, StackedOn, in_order, Gathered}
@@ -144,7 +145,6 @@ pub gathered_fits : (b : Store) (head from1 : ℕ) (r : Roots) (o : Order) (key 
 gathered_fits b head from1 r o key g t l i =
     let e : tag_of (kind_of key.head) ≡ tag_of (kind_of head) = ap tag_of (ap kind_of g.same_head) in
     record {
-      tags = omega arith;
       below = λ k x. let m : k < arity_of (kind_of head) = omega arith in let z = g.parts k m in
           let y = i.low (in_order o from1 (arity_of (kind_of head)) k)
           (omega (arith, order_below o from1 (arity_of (kind_of head)) k m)) in

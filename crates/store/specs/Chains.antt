@@ -1,8 +1,9 @@
 -- Chains: each slot links to the one before it in its bucket, and each bucket to its last slot. Links are slot numbers plus 1.
 use Rattle.std.specs.Prelude.{◌≡◌, ℕ, zero, suc, ◌+◌, ◌-◌, ◌*◌, ◌/◌, ◌%◌, ◌<◌, ◌≤◌, List, Some, None, Option, ◌≢◌, bit_and, slice_index}
-use Rattle.store.specs.declared.types.Key.{Key}
+use Rattle.store.specs.declared.keys.Key.{Key}
 use Rattle.store.specs.Cells.{cell, HasSlot}
-use Rattle.store.specs.Slots.{kind_of, flag_of, arity_of, kind_at, part_at, link_at, last_at, note_at, term_of, Shared, key_term}
+use Rattle.store.specs.Slots.{kind_of, flag_of, arity_of, kind_at, part_at, link_at, last_at, note_at, term_of, Shared}
+use Rattle.store.specs.Keys.{key_term}
 
 -- the hash of a kind k and its parts p 0, p 1, ..: each is added, and the sum multiplied by 2^64 over the golden ratio
 unfoldable pub mix_of : ℕ → ℕ → ℕ

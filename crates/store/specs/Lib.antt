@@ -2,6 +2,7 @@
 pub mod Numbers
 pub mod Cells
 pub mod Slots
+pub mod Keys
 pub mod Chains
 pub mod Marks
 pub mod Slides

@@ -1,11 +1,13 @@
 // Chains of slots by hash: finding the slot of a key, and adding one.
 ghost use Rattle.std.specs.Prelude.{◌≡◌, ◌+◌, ◌<◌, ◌≤◌, true, false, None};
 ghost use Rattle.store.specs.Cells.{HasSlot};
-ghost use Rattle.store.specs.Slots.{kind_of, tag_of, Shared, FitsIn};
+ghost use Rattle.store.specs.Slots.{Shared};
+ghost use Rattle.store.specs.Keys.{FitsIn};
 ghost use Rattle.store.specs.Chains.{mix_of, key_bucket, Chains, Found, Holds, Pushed, OneMore};
 
+use crate::keys::Key;
 use crate::slots::{HEAD, LAST, LINK, NOTE, arity, get, kind, part, put, put_slot};
-use crate::types::{Key, Store};
+use crate::types::Store;
 
 const WORD_BITS: usize = 32;
 
@@ -20,7 +22,6 @@ fn mix(h: usize, x: usize) -> usize
 
 // The bucket of a key.
 fn bucket(mask: usize, key: &Key) -> usize
-    requires { tag_of (kind_of key.now.head) ≤ 5 }
     ensures is { result ≡ key_bucket mask key.now }
     ensures low { result ≤ mask }
 {
@@ -34,7 +35,7 @@ fn bucket(mask: usize, key: &Key) -> usize
 
 // Whether slot i is what the key says.
 fn holds(ws: &[u32], i: usize, key: &Key) -> bool
-    requires { (HasSlot ws.now i) × (tag_of (kind_of key.now.head) ≤ 5) }
+    requires { HasSlot ws.now i }
     ensures yes { result ≡ true → Holds ws.now i key.now }
     ensures no { result ≡ false → Holds ws.now i key.now → ⊥ }
 {
@@ -70,7 +71,7 @@ impl Store<'_> {
 
 // Writes a key into slot n, at the end of its bucket.
 pub fn push(ws: &mut [u32], n: usize, mask: usize, key: &Key)
-    requires { (HasSlot ws.old n) × ((HasSlot ws.old mask) × (tag_of (kind_of key.now.head) ≤ 5)) }
+    requires { (HasSlot ws.old n) × (HasSlot ws.old mask) }
     ensures { Pushed mask ws.old n key.now ws.new }
 {
     let b = bucket(mask, key);

@@ -9,11 +9,11 @@ ghost use Rattle.store.specs.Slides.{Translated, Slid, Collected};
 ghost use Rattle.store.specs.Roots.{HasRoots};
 ghost use Rattle.store.specs.Stacks.{root_in, RootsIn, RootsMoved};
 
-use std::array;
-
 use crate::chains::push;
+use crate::keys::Key;
 use crate::slots::{HEAD, LAST, NOTE, arity_at, clear, get, part, put};
-use crate::types::{Key, Place, Roots};
+use crate::types::{Place, Roots};
+use std::array;
 
 fn mark_parts(ws: &mut [u32], count: usize, i: usize)
     requires { (Shape ws.old count) × (i < count) }

@@ -3,6 +3,7 @@
 
 mod chains;
 mod collect;
+mod keys;
 mod make;
 mod numbers;
 mod roots;

@@ -1,7 +1,8 @@
 // Making terms: a term's place is found or added, and a full store is collected first.
 ghost use Rattle.std.specs.Prelude.{◌≡◌, ℕ, ◌+◌, ◌-◌, ◌*◌, ◌/◌, ◌^◌, ◌<◌, ◌≤◌, false, length, Some};
 ghost use Rattle.rewriting.specs.Terms.{letter, sign};
-ghost use Rattle.store.specs.Slots.{kind_of, tag_of, arity_of, flag_of, FitsIn, key_term};
+ghost use Rattle.store.specs.Slots.{kind_of, tag_of, arity_of, flag_of};
+ghost use Rattle.store.specs.Keys.{FitsIn, key_term};
 ghost use Rattle.store.specs.Chains.{Chains, Found};
 ghost use Rattle.store.specs.Stores.{Grown, Carried, Inside, RootsKept, terms_up, terms_down};
 ghost use Rattle.store.specs.Making.{Opened, Interned, KeptOnly, root_term, Placed, Made, Reserved};
@@ -9,8 +10,9 @@ ghost use Rattle.store.specs.Making.{PartsInside, SignShared, LetterShared, Empt
 
 use crate::chains::add;
 use crate::collect::compact;
+use crate::keys::Key;
 use crate::slots::{LAST, SLOT, clear, letter_head, sign_head};
-use crate::types::{Full, Key, Order, Place, Roots, Store};
+use crate::types::{Full, Order, Place, Plan, Roots, Store};
 
 // How many slots a store has before its first collection, so that short work stays in the cache.
 const FIRST_LIMIT: usize = 16384;
@@ -36,6 +38,18 @@ fn empty(ws: &mut [u32], limit: usize) -> usize
     let mask = mask_below(limit);
     clear(ws, mask + 1, LAST);
     mask
+}
+
+impl Plan {
+    fn new(head: usize, from: usize, order: Order) -> Plan
+        requires few { tag_of (kind_of head) ≤ 5 }
+        requires unflagged { flag_of head ≡ false }
+        ensures head { result.head ≡ head }
+        ensures from { result.from ≡ from }
+        ensures order { result.order ≡ order }
+    {
+        Plan { head, from, order }
+    }
 }
 
 impl<'a> Store<'a> {
@@ -106,49 +120,39 @@ impl Store<'_> {
         }
     }
 
-    // The place of the term with this head and the roots from one on as parts; none if what the roots hold fills the store.
-    fn place(&mut self, roots: &mut Roots, head: usize, from: usize, order: Order) -> Option<Place>
-        requires inside { (Inside self.old roots.old) × (flag_of head ≡ false) }
-        requires head_bound { (tag_of (kind_of head) ≤ 5) × (from + arity_of (kind_of head) ≡ roots.old.top) }
+    // The place of a term to be made; none if what the roots hold fills the store.
+    fn place(&mut self, roots: &mut Roots, plan: Plan) -> Option<Place>
+        requires inside { Inside self.old roots.old }
+        requires last { plan.from + arity_of (kind_of plan.head) ≡ roots.old.top }
         ensures room { self.new.room ≡ self.old.room }
         ensures carried { Carried self.old self.new }
         ensures roots { RootsKept self.old roots.old self.new roots.new }
         ensures place { Placed self.old roots.old self.new
-            (root_term self.old head roots.old order from) result }
+            (root_term self.old plan.head roots.old plan.order plan.from) result }
     {
-        let key = roots.gather(head, from, order);
+        let key = roots.gather(plan);
         if let Some(p) = self.intern(&key) {
             return Some(p);
         }
         self.collect(roots);
-        let moved = roots.gather(head, from, order);
+        let moved = roots.gather(plan);
         self.intern(&moved)
     }
 
-    // Puts the term with this head in place of the roots that are its parts, from one on.
-    fn make(
-        &mut self,
-        roots: &mut Roots,
-        head: usize,
-        from: usize,
-        order: Order,
-    ) -> Result<(), Full>
-        requires inside { (Inside self.old roots.old) × (flag_of head ≡ false) }
-        requires head_bound { (tag_of (kind_of head) ≤ 5) × (from + arity_of (kind_of head) ≡ roots.old.top) }
-        ensures { Made self.old roots.old from
-            (root_term self.old head roots.old order from)
+    // Puts a term to be made in place of the roots that are its parts.
+    fn make(&mut self, roots: &mut Roots, plan: Plan) -> Result<(), Full>
+        requires inside { Inside self.old roots.old }
+        requires last { plan.from + arity_of (kind_of plan.head) ≡ roots.old.top }
+        ensures { Made self.old roots.old plan.from
+            (root_term self.old plan.head roots.old plan.order plan.from)
             self.new roots.new result }
     {
-        if roots.cells.len() / 2 <= from {
+        if roots.cells.len() / 2 <= plan.from {
             return Err(Full::NoRoot);
         }
-        match self.place(roots, head, from, order) {
-            Some(p) => {
-                roots.stack(from, p);
-                Ok(())
-            }
-            None => Err(Full::NoSlot),
-        }
+        let p = self.place(roots, plan).ok_or(Full::NoSlot)?;
+        roots.stack(plan.from, p);
+        Ok(())
     }
 
     // One more root, which holds a letter.
@@ -157,8 +161,8 @@ impl Store<'_> {
         ensures { Made self.old roots.old roots.old.top (letter x)
             self.new roots.new result }
     {
-        let top = roots.top;
-        self.make(roots, letter_head(x), top, Order::Up)
+        let from = roots.top;
+        self.make(roots, Plan::new(letter_head(x), from, Order::Up))
     }
 
     // A sign with the last n roots as parts, in their place. The lowest is the first part.
@@ -169,7 +173,7 @@ impl Store<'_> {
             self.new roots.new result }
     {
         let from = roots.top - n;
-        self.make(roots, sign_head(f, n), from, Order::Up)
+        self.make(roots, Plan::new(sign_head(f, n), from, Order::Up))
     }
 
     // The same, with the uppermost root as the first part.
@@ -180,7 +184,7 @@ impl Store<'_> {
             self.new roots.new result }
     {
         let from = roots.top - n;
-        self.make(roots, sign_head(f, n), from, Order::Down)
+        self.make(roots, Plan::new(sign_head(f, n), from, Order::Down))
     }
 
     // Sees to it that n more slots are below the limit, by a collection if need be; refused if what the roots hold leaves no room for them.

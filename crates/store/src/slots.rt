@@ -1,10 +1,11 @@
 // Slots in lent words: reading and writing their cells. A slot of 16 words is one cache line.
 ghost use Rattle.std.specs.Prelude.{◌≡◌, ◌+◌, ◌-◌, ◌*◌, ◌<◌, ◌≤◌, false, length};
 ghost use Rattle.store.specs.Cells.{cell, HasSlot, CellPut, Cleared};
-ghost use Rattle.store.specs.Slots.{kind_of, arity_of, arity_at, part_at, tag_of, symbol_of, flag_of, PartsWritten, SlotWritten};
+ghost use Rattle.store.specs.Slots.{kind_of, arity_of, arity_at, part_at, tag_of, symbol_of, flag_of, PartsWritten};
+ghost use Rattle.store.specs.Keys.{SlotWritten};
 
+use crate::keys::Key;
 use crate::numbers::{WORD, number_at, put_number};
-use crate::types::Key;
 
 // The words of a slot, and its cells.
 pub const SLOT: usize = 16;

@@ -1,6 +1,6 @@
 // The types: a store of shared terms, and the stack of roots that says which are kept.
-ghost use Rattle.std.specs.Prelude.{◌≡◌, ◌*◌, ◌<◌, ◌≤◌, length};
-ghost use Rattle.store.specs.Slots.{Shared};
+ghost use Rattle.std.specs.Prelude.{◌≡◌, ◌*◌, ◌<◌, ◌≤◌, false, length};
+ghost use Rattle.store.specs.Slots.{tag_of, kind_of, flag_of, Shared};
 ghost use Rattle.store.specs.Chains.{Chains};
 ghost use Rattle.store.specs.declared.types.Short.TheVariants.{NoCell};
 
@@ -69,9 +69,12 @@ impl From<Full> for Short {
     }
 }
 
-// What a slot is found by: its head and the numbers of its parts' slots.
-#[derive(Clone, Copy, Debug, PartialEq, Eq)]
-pub struct Key {
+// A term to be made: its head, and which roots are its parts, from one on.
+#[derive(Clone, Copy)]
+pub struct Plan {
     pub head: usize,
-    pub parts: [usize; 4],
+    pub from: usize,
+    pub order: Order,
+    pub ghost few: { tag_of (kind_of head) ≤ 5 },
+    pub ghost unflagged: { flag_of head ≡ false },
 }
