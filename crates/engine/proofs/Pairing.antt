@@ -1,5 +1,5 @@
 -- Two rows read, and their terms compared.
-use Rattle.std.proofs.Common.{◌≡◌, ℕ, ◌+◌, ◌-◌, ◌*◌, ◌≤◌, Bool, true, false, List, [], ◌∷◌, length, take, drop, Ok, Err, Result, sym}
+use Rattle.std.proofs.Common.{◌≡◌, ℕ, ◌+◌, ◌*◌, ◌≤◌, Bool, true, false, List, [], ◌∷◌, length, Ok, Err, Result, sym}
 use Rattle.std.proofs.Common.{refl, ap, ◌∙◌, subst, arith, IsErr}
 use Rattle.std.proofs.lemmas.Bool.{false≢true}
 use Rattle.rewriting.specs.Terms.{Term, size, Fits, SmallLetter}
@@ -9,7 +9,6 @@ use Rattle.rewriting.proofs.Signature.{over_fits}
 use Rattle.rewriting.proofs.Different.{different_size}
 use Rattle.books.specs.declared.row.Book.{Book}
 use Rattle.books.specs.Books.{told, SoundBook}
-use Rattle.books.specs.Reading.{signs_of, parts_of}
 use Rattle.books.specs.Rows.{Of}
 use Rattle.books.specs.Layouts.{FewParts}
 use Rattle.books.proofs.Heads.{head_of}

@@ -10,7 +10,6 @@ returns-then-is_normal c =
     c.requires.rewritable.0.inside
     (sym c.if-is_normal.ensures)
 
-pub returns-in-Some-rewrite : goal.returns-in-Some-rewrite
-returns-in-Some-rewrite c =
-    by_step (told c.args.book.now).rules c.args.store.now c.args.p c.rewrite.new.store c.in-Some-rewrite.q
-    c.requires.honest c.in-Some-rewrite.ensures
+pub returns : goal.returns
+returns c =
+    by_step (told c.args.book.now).rules c.args.store.now c.args.p c.rewrite.new.store c.in_ok-q.q c.requires.honest c.in_ok-q.ensures

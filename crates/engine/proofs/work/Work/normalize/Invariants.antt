@@ -7,8 +7,7 @@ use Rattle.engine.proofs.RunningOn.{Underway}
 use Rattle.engine.proofs.work.Work.normalize.Given as goal
 
 abbrev pub decreases-loop-next : goal.decreases-loop-next
-decreases-loop-next l = cost (told l.book) (state_in l.self.store l.self.roots l.self.frames l.focus)
+decreases-loop-next l = cost (told l.book) (state_in l.self l.focus)
 
 abbrev pub invariant-loop-next : goal.invariant-loop-next
-invariant-loop-next l = Underway l.book l.low l.initial.self.store l.initial.self.roots l.initial.self.frames
-    (whole (state_in l.initial.self.store l.initial.self.roots l.initial.self.frames l.initial.focus)) l.self.store l.self.roots l.self.frames l.focus
+invariant-loop-next l = Underway l.book l.low l.initial.self (whole (state_in l.initial.self l.initial.focus)) l.self l.focus
