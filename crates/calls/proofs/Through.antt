@@ -1,5 +1,5 @@
 -- From a term's row to that of its normal form.
-use Rattle.std.proofs.Common.{◌≡◌, ℕ, ◌+◌, ◌-◌, ◌*◌, ◌<◌, ◌≤◌, true, false, List, [], ◌∷◌, length, take, drop, Ok, Err, sym, ap, ◌∙◌}
+use Rattle.std.proofs.Common.{◌≡◌, ℕ, ◌+◌, ◌-◌, ◌*◌, ◌<◌, ◌≤◌, List, [], ◌∷◌, length, Ok, Err, sym, ap, ◌∙◌}
 use Rattle.std.proofs.Common.{subst, arith}
 use native.Mathlib.Decide.{dec_lt}
 use Rattle.rewriting.specs.Terms.{Term, size, Fits, SmallLetter}
@@ -25,16 +25,15 @@ use Rattle.store.specs.declared.types.Short.TheVariants.{NoWord, NoCell}
 use Rattle.store.specs.Stores.{Inside, held}
 use Rattle.store.specs.Transfers.{RowOf, Read, WrittenOrShort}
 use Rattle.order.specs.Downward.{GoesDown}
-use Rattle.order.proofs.Rules.{parts_are}
-use Rattle.engine.specs.declared.types.Frames.{Frames}
+use Rattle.engine.specs.declared.types.NoRoom.{NoRoom}
+use Rattle.engine.specs.declared.work.Work.{Work}
 use Rattle.engine.specs.Running.{Honest}
 use Rattle.engine.specs.Normal.{Startable, Normalized}
 use Rattle.engine.specs.Spacing.{Wanting, few_slots, few_words, few_cells}
 use Rattle.engine.specs.Meeting.{most_parts, Ample}
 use Rattle.engine.proofs.Honesty.{honest_carried}
-use Rattle.calls.specs.declared.types.Answer.{Answer}
-use Rattle.calls.specs.declared.types.Answer.TheVariants.{Normal, NoBook, Up, NoTerm, Room, Long, Few}
-use Rattle.calls.specs.Calls.{NormalForm, Outgrown, NormalAnswers, WordsAnswer, refusal_of}
+use Rattle.calls.specs.declared.types.Refusal.TheVariants.{NoBook, Up, NoTerm, Room, Long, Few}
+use Rattle.calls.specs.Calls.{Answer, NormalForm, Outgrown, NormalAnswers, WordsAnswer, refusal_of}
 
 -- no roots
 pub none_inside : (a : Store) (q : Roots) → q.top ≡ 0 → Inside a q
@@ -48,12 +47,12 @@ module _ (b : Told) (ts : List ℕ) (t : Term) (of : Of b.parts ts t) (n : ℕ) 
   by_different : (u : Term) → Steps b.rules t u → n < different (u ∷ []) → Outgrown b ts n
   by_different u s l = outgrown u s (omega (arith, different_size u))
 
-  pub not_read : (a c : Store) (q r : Roots) (fr : Frames) → q.top ≡ 0 → Ample n a q fr → (x : Full) → Read a q t c r (Err x) →
-      Outgrown b ts n
-  not_read a c q r fr bare m NoSlot h =
-      let e = ap (λ (j : ℕ). different (t ∷ listed (λ k. held a q k) j)) bare in
+  pub not_read : (w : Work) (c : Store) (r : Roots) → w.roots.top ≡ 0 → Ample n w → (x : Full) →
+      Read w.store w.roots t c r (Err x) → Outgrown b ts n
+  not_read w c r bare m NoSlot h =
+      let e = ap (λ (j : ℕ). different (t ∷ listed (λ k. held w.store w.roots k) j)) bare in
       by_different t stay (omega (arith, e, h.roots.1, m.slots))
-  not_read a c q r fr bare m NoRoot h = outgrown t stay (at (dec_lt n (size t)))
+  not_read w c r bare m NoRoot h = outgrown t stay (at (dec_lt n (size t)))
     where
       at : Dec (n < size t) → n < size t
       at (yes l) = l
@@ -72,25 +71,24 @@ module _ (k : Book) (sound : SoundBook k) where
   up_not_down i l n d = n (d i _ (is_rule k sound i l))
 
   -- the parts, as a program has them
-  module _ (n : ℕ) (e : n ≡ k.layout.signs) where
-    pub few_parts : FewParts (take (1 + n - 1) (drop 1 k.words.now))
-    few_parts = subst FewParts (sym (parts_are k sound n e))
+  module _ (ps : List ℕ) (e : ps ≡ (told k).parts) where
+    pub few_parts : FewParts ps
+    few_parts = subst FewParts (sym e)
         (book_parts k.words.now (told k) sound.reads (told k).parts (sym (head_of k.words.now (told k) sound.reads).parts))
 
-    pub of_told : (ts : List ℕ) (t : Term) → Of (take (1 + n - 1) (drop 1 k.words.now)) ts t → Of (told k).parts ts t
-    of_told ts t o = subst (λ (ps : List ℕ). Of ps ts t) (parts_are k sound n e) o
-
-    pub of_here : (ts : List ℕ) (t : Term) → Of (told k).parts ts t → Of (take (1 + n - 1) (drop 1 k.words.now)) ts t
-    of_here ts t o = subst (λ (ps : List ℕ). Of ps ts t) (sym (parts_are k sound n e)) o
-
-    pub row_here : (ts : List ℕ) (t : Term) → Of (told k).parts ts t → RowOf (take (1 + n - 1) (drop 1 k.words.now)) ts t
-    row_here ts t o = record { written = o.written; fits = subst (λ (ps : List ℕ). Fits ps t) (sym (parts_are k sound n e)) fit }
-      where
-        fit : Fits (told k).parts t
-        fit = over_fits (told k).parts SmallLetter t o.fits
+    pub row_here : (ts : List ℕ) (t : Term) → Of (told k).parts ts t → RowOf ps ts t
+    row_here ts t o = record {
+      written = o.written;
+      fits = subst (λ (qs : List ℕ). Fits qs t) (sym e) (over_fits (told k).parts SmallLetter t o.fits);
+    }
 
   module _ (down : AllDown (rank (told k).ranks) (told k).rules) (ts : List ℕ) (t : Term) (of : Of (told k).parts ts t)
-      (a b : Store) (q r : Roots) (u : Unit {0}) (none : a.count ≡ 0) (bare : q.top ≡ 0) (read : Read a q t b r (Ok u)) where
+      (w : Work) (b : Store) (r : Roots) (none : w.store.count ≡ 0) (bare : w.roots.top ≡ 0)
+      (read : Read w.store w.roots t b r (Ok tt)) where
+    -- with the term's row read
+    abbrev loaded : Work
+    loaded = record { store = b; roots = r; frames = w.frames }
+
     held_first : held b r 0 ≡ t
     held_first = ap (λ (j : ℕ). held b r j) (sym bare) ∙ read.roots.term
 
@@ -100,7 +98,7 @@ module _ (k : Book) (sound : SoundBook k) where
     held_top : held b r (r.top - 1) ≡ t
     held_top = let z : r.top - 1 ≡ 0 = omega (arith, top_one) in ap (λ (j : ℕ). held b r j) z ∙ held_first
 
-    nothing_told : Honest (told k).rules a
+    nothing_told : Honest (told k).rules w.store
     nothing_told = record {
       flags = λ i l. absurd (omega arith);
       inside = λ i l. absurd (omega arith);
@@ -108,47 +106,45 @@ module _ (k : Book) (sound : SoundBook k) where
       done = λ i l. absurd (omega arith);
     }
 
-    pub startable : Startable k b r
+    pub startable : Startable k loaded
     startable = record {
       book = sound;
       down = down;
       sound = read.sound;
-      honest = honest_carried (told k).rules a b nothing_told read.carried;
+      honest = honest_carried (told k).rules w.store b nothing_told read.carried;
       inside = read.roots.inside;
       some = omega (arith, top_one);
       fits = subst (Fits (told k).parts) (sym held_top) (over_fits (told k).parts SmallLetter t of.fits);
     }
 
-    pub stopped : (n : ℕ) (fr gr : Frames) (c : Store) (o : Roots) → Ample n a q fr → Normalized k b r fr c o gr false →
-        Outgrown (told k) ts n
-    stopped n fr gr c o m x =
-        let (u, s, w) = x.result.1 in
-        wanting (told k) ts t of n b.room (length fr.words.now) (length r.cells.now) (r.top - 1) (λ j. held b r j) u
+    pub stopped : (n : ℕ) (v : Work) (e : NoRoom) → Ample n w → Normalized k loaded v (Err e) → Outgrown (told k) ts n
+    stopped n v e m x =
+        let (u, s, want) = x.result.1 in
+        wanting (told k) ts t of n b.room (length w.frames.words.now) (length r.cells.now) (r.top - 1) (λ j. held b r j) u
         (omega (arith, top_one)) (omega (arith, m.slots, read.room)) m.words (omega (arith, m.cells, read.roots.long))
-        (subst (λ (v : Term). Steps (told k).rules v u) held_top s) w
+        (subst (λ (x : Term). Steps (told k).rules x u) held_top s) want
 
-    pub cells_long : (n : ℕ) (fr gr : Frames) (c : Store) (o : Roots) → Ample n a q fr → Normalized k b r fr c o gr true →
-        6 * n + 256 ≤ length o.cells.now
-    cells_long n fr gr c o m x = omega (arith, m.cells, read.roots.long, x.cells)
+    pub cells_long : (n : ℕ) (v : Work) → Ample n w → Normalized k loaded v (Ok tt) → 6 * n + 256 ≤ length v.roots.cells.now
+    cells_long n v m x = omega (arith, m.cells, read.roots.long, x.cells)
 
-    module _ (fr gr : Frames) (c : Store) (o : Roots) (n : Normalized k b r fr c o gr true) where
-      pub one_root : o.top ≡ 1
+    module _ (v : Work) (n : Normalized k loaded v (Ok tt)) where
+      pub one_root : v.roots.top ≡ 1
       one_root = n.result.0 ∙ top_one
 
-      pub normal : NormalForm (told k) ts (held c o 0)
+      pub normal : NormalForm (told k) ts (held v.store v.roots 0)
       normal =
           let z : r.top - 1 ≡ 0 = omega (arith, top_one) in
-          let s = subst (λ (x : Term). Steps (told k).rules x (held c o (r.top - 1))) held_top n.result.1 in
+          let s = subst (λ (x : Term). Steps (told k).rules x (held v.store v.roots (r.top - 1))) held_top n.result.1 in
           record {
             term = t;
             of = of;
-            steps = subst (λ (j : ℕ). Steps (told k).rules t (held c o j)) z s;
-            done = subst (λ (j : ℕ). Done (told k).rules (held c o j)) z n.result.2;
+            steps = subst (λ (j : ℕ). Steps (told k).rules t (held v.store v.roots j)) z s;
+            done = subst (λ (j : ℕ). Done (told k).rules (held v.store v.roots j)) z n.result.2;
           }
 
 -- a row that can't be written
 pub refused : (b : Told) (ts vs ws : List ℕ) (q : Roots) (v : Term) (n : ℕ) → q.top ≡ 1 → 6 * n + 256 ≤ length q.cells.now →
-    NormalForm b ts v → (x : Short) → WrittenOrShort q v vs ws (Err x) → NormalAnswers b ts n (length vs) ws (refusal_of x)
+    NormalForm b ts v → (x : Short) → WrittenOrShort q v vs ws (Err x) → NormalAnswers b ts n (length vs) ws (Err (refusal_of x))
 refused b ts vs ws q v n one long f NoWord h = (v, f, h)
 refused b ts vs ws q v n one long f NoCell h =
     record { term = f.term; of = f.of; large = v; steps = f.steps; more = at (dec_lt n (size v)) }
@@ -160,10 +156,10 @@ refused b ts vs ws q v n one long f NoCell h =
 -- the same by the number of work words
 pub words_answer : (b : Told) (ts : List ℕ) (w m : ℕ) (ws : List ℕ) (x : Answer) → NormalAnswers b ts (most_parts w) m ws x →
     WordsAnswer b ts w m ws x
-words_answer b ts w m ws (Normal j) h = h
-words_answer b ts w m ws NoBook h = h
-words_answer b ts w m ws (Up i) h = h
-words_answer b ts w m ws NoTerm h = h
-words_answer b ts w m ws Room h = h
-words_answer b ts w m ws Long h = h
-words_answer b ts w m ws Few h = absurd h
+words_answer b ts w m ws (Ok j) h = h
+words_answer b ts w m ws (Err NoBook) h = h
+words_answer b ts w m ws (Err (Up i)) h = h
+words_answer b ts w m ws (Err NoTerm) h = h
+words_answer b ts w m ws (Err Room) h = h
+words_answer b ts w m ws (Err Long) h = h
+words_answer b ts w m ws (Err Few) h = absurd h

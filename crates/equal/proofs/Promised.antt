@@ -11,9 +11,6 @@ use Rattle.books.specs.declared.row.Book.{Book}
 use Rattle.books.specs.Books.{told, SoundBook}
 use Rattle.books.specs.Rows.{Reads}
 use Rattle.books.proofs.Unique.{one_book, one_term, one_ways}
-use Rattle.store.specs.declared.types.Store.{Store}
-use Rattle.store.specs.declared.types.Roots.{Roots}
-use Rattle.engine.specs.declared.types.Frames.{Frames}
 use Rattle.engine.specs.declared.work.Work.{Work}
 use Rattle.engine.specs.Working.{Fresh}
 use Rattle.equal.specs.declared.types.Judged.{Judged}
@@ -39,10 +36,10 @@ theorems = record {
 
 -- what the work words give
 module _ (s h : List ℕ) (w : ℕ) (k : Work) (fresh : Fresh w k) where
-  pub open_store : OpenStore k.store k.roots
+  pub open_store : OpenStore k
   open_store = record { sound = fresh.sound; honest = fresh.honest; none = fresh.top }
 
-  pub room_for : (TooFew w (length s + length h) → ⊥) → RoomFor s h (most_parts w) k.store k.roots k.frames
+  pub room_for : (TooFew w (length s + length h) → ⊥) → RoomFor s h (most_parts w) k
   room_for enough = record { ample = fresh.ample; slots = fresh.slots; long = at (dec_le (length s + length h) (most_parts w)) }
     where
       at : Dec (length s + length h ≤ most_parts w) → length s + length h ≤ most_parts w
@@ -53,9 +50,9 @@ module _ (s h : List ℕ) (w : ℕ) (k : Work) (fresh : Fresh w k) where
 large : (b : ToldBook) (w : ℕ) → 16384 ≤ w → Growing b (most_parts w) → Large b w
 large b w low (t, u, start, steps, many) = (t, u, start, steps, omega (arith, different_size u))
 
-pub judged_post : (s h : List ℕ) (w : ℕ) → 16384 ≤ w → (TooFew w (length s + length h) → ⊥) → (st : Store) (q : Roots) (fr : Frames)
-    (su : Store) (r : Roots) (gr : Frames) (a : Judged) → JudgedIn s h (most_parts w) st q fr su r gr a → JudgedPost s h w a
-judged_post s h w low enough st q fr su r gr a j = record {
+pub judged_post : (s h : List ℕ) (w : ℕ) → 16384 ≤ w → (TooFew w (length s + length h) → ⊥) → (k l : Work) (a : Judged) →
+    JudgedIn s h (most_parts w) k l a → JudgedPost s h w a
+judged_post s h w low enough k l a j = record {
   says = j.says;
   room = λ e b reads. large b w low (j.room e b reads);
   few = (λ few. absurd (enough few), λ e. absurd (j.enough e));
@@ -83,9 +80,8 @@ module _ (s h x y : List ℕ) (w : ℕ) where
 
   module _ (enough : TooFew w (length s + (length h + (length x + length y))) → ⊥) where
     -- another answer than that it settles
-    pub told_refused : 16384 ≤ w → (st : Store) (q : Roots) (fr : Frames) (su : Store) (o : Roots) (gr : Frames) (r : Judged) →
-        JudgedIn s h (most_parts w) st q fr su o gr r → (r ≡ Settles → ⊥) → (a : Told) → a ≡ not_settled r → ToldPost s h x y w a
-    told_refused low st q fr su o gr r p other a e = subst (ToldPost s h x y w) (sym e) (at r p other)
+    pub told_refused : 16384 ≤ w → (k l : Work) (r : Judged) → JudgedIn s h (most_parts w) k l r → (r ≡ Settles → ⊥) → (a : Told) → a ≡ not_settled r → ToldPost s h x y w a
+    told_refused low k l r p other a e = subst (ToldPost s h x y w) (sym e) (at r p other)
       where
         unsettled : (JudgedSays s h Settles → ⊥) → ToldPost s h x y w Unsettled
         unsettled never = record {
@@ -96,11 +92,11 @@ module _ (s h x y : List ℕ) (w : ℕ) where
           parts = theorems;
         }
 
-        by : (r : Judged) → JudgedIn s h (most_parts w) st q fr su o gr r → (r ≡ Settles → ⊥) → (r ≡ Room → ⊥) →
+        by : (r : Judged) → JudgedIn s h (most_parts w) k l r → (r ≡ Settles → ⊥) → (r ≡ Room → ⊥) →
             ToldPost s h x y w Unsettled
         by r p other room = unsettled (excludes s h r other room p.enough p.says)
 
-        at : (r : Judged) → JudgedIn s h (most_parts w) st q fr su o gr r → (r ≡ Settles → ⊥) → ToldPost s h x y w (not_settled r)
+        at : (r : Judged) → JudgedIn s h (most_parts w) k l r → (r ≡ Settles → ⊥) → ToldPost s h x y w (not_settled r)
         at Settles p other = absurd (other refl)
         at (Up i) p other = by (Up i) p other (λ e. let z : ◌≡◌ {A = ℕ} 0 1 = cc in omega arith)
         at Apart p other = by Apart p other (λ e. let z : ◌≡◌ {A = ℕ} 0 1 = cc in omega arith)

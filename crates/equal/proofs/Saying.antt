@@ -11,9 +11,7 @@ use Rattle.books.proofs.Elements.{nth_is}
 use Rattle.books.proofs.Bookish.{is_rule, is_equation}
 use Rattle.books.proofs.Unique.{the_book}
 use Rattle.order.specs.Downward.{FirstUp}
-use Rattle.store.specs.declared.types.Store.{Store}
-use Rattle.store.specs.declared.types.Roots.{Roots}
-use Rattle.engine.specs.declared.types.Frames.{Frames}
+use Rattle.engine.specs.declared.work.Work.{Work}
 use Rattle.engine.specs.Running.{Honest}
 use Rattle.engine.specs.Meeting.{Working, LeftIdle}
 use Rattle.equal.specs.declared.types.Judged.{Judged}
@@ -59,8 +57,8 @@ module _ (k : Book) (sound : SoundBook k) (h : List ℕ) where
   growing : (n : ℕ) → Growing (told k) n → (b : Told) → Reads k.words.now b → Growing b n
   growing n g b reads = subst (λ (c : Told). Growing c n) (the_book k.words.now b reads) g
 
-  module _ (n : ℕ) (st : Store) (q : Roots) (fr : Frames) (su : Store) (r : Roots) (gr : Frames) where
-    pub judged_up : (i : ℕ) → FirstUp k (Some i) → JudgedIn k.words.now h n st q fr su r gr (Up i)
+  module _ (n : ℕ) (w v : Work) where
+    pub judged_up : (i : ℕ) → FirstUp k (Some i) → JudgedIn k.words.now h n w v (Up i)
     judged_up i up = record {
       says = says_up i up;
       enough = λ e. let z : ◌≡◌ {A = ℕ} 0 1 = cc in omega arith;
@@ -69,13 +67,13 @@ module _ (k : Book) (sound : SoundBook k) (h : List ℕ) where
     }
 
     -- another value for the same book
-    other_idle : LeftIdle k st q fr su r gr → (j : Book) → SoundBook j → j.words.now ≡ k.words.now → LeftIdle j st q fr su r gr
+    other_idle : LeftIdle k w v → (j : Book) → SoundBook j → j.words.now ≡ k.words.now → LeftIdle j w v
     other_idle idle j good e = record {
       working = record {
         book = good;
         down = subst (λ (ws : List ℕ). AllDown (rank (book_of ws).ranks) (book_of ws).rules) (sym e) idle.working.down;
         sound = idle.working.sound;
-        honest = subst (λ (ws : List ℕ). Honest (book_of ws).rules su) (sym e) idle.working.honest;
+        honest = subst (λ (ws : List ℕ). Honest (book_of ws).rules v.store) (sym e) idle.working.honest;
       };
       room = idle.room;
       cells = idle.cells;
@@ -83,8 +81,8 @@ module _ (k : Book) (sound : SoundBook k) (h : List ℕ) where
       none = idle.none;
     }
 
-    pub judged_down : AllDown (rank (told k).ranks) (told k).rules → LeftIdle k st q fr su r gr → (a : Judged) → RulesSay k h n a →
-        JudgedIn k.words.now h n st q fr su r gr a
+    pub judged_down : AllDown (rank (told k).ranks) (told k).rules → LeftIdle k w v → (a : Judged) → RulesSay k h n a →
+        JudgedIn k.words.now h n w v a
     judged_down down idle a said = record {
       says = says n down a said;
       enough = λ e. subst (RulesSay k h n) e said;
@@ -92,9 +90,9 @@ module _ (k : Book) (sound : SoundBook k) (h : List ℕ) where
       idle = λ e. other_idle idle;
     }
 
-pub judged_none : (s h : List ℕ) (n : ℕ) (st : Store) (q : Roots) (fr : Frames) (su : Store) (r : Roots) (gr : Frames) →
-    ((b : Told) → Reads s b → ⊥) → JudgedIn s h n st q fr su r gr NoBook
-judged_none s h n st q fr su r gr none = record {
+pub judged_none : (s h : List ℕ) (n : ℕ) (w v : Work) →
+    ((b : Told) → Reads s b → ⊥) → JudgedIn s h n w v NoBook
+judged_none s h n w v none = record {
   says = none;
   enough = λ e. let z : ◌≡◌ {A = ℕ} 0 1 = cc in omega arith;
   room = λ e. let z : ◌≡◌ {A = ℕ} 0 1 = cc in absurd (omega arith);
@@ -102,13 +100,12 @@ judged_none s h n st q fr su r gr none = record {
 }
 
 -- a store that serves for any book serves for this one
-pub working : (k : Book) → SoundBook k → AllDown (rank (told k).ranks) (told k).rules → (st : Store) (q : Roots) → OpenStore st q →
-    Working k st
-working k sound down st q o = record { book = sound; down = down; sound = o.sound; honest = o.honest (told k).rules }
+pub working : (k : Book) → SoundBook k → AllDown (rank (told k).ranks) (told k).rules → (w : Work) → OpenStore w → Working k w.store
+working k sound down w o = record { book = sound; down = down; sound = o.sound; honest = o.honest (told k).rules }
 
-pub ample_with : (k : Book) (h : List ℕ) (n : ℕ) (st : Store) (q : Roots) (fr : Frames) → RoomFor k.words.now h n st q fr →
-    AmpleWith k (length h) n st q fr
-ample_with k h n st q fr room = record {
+pub ample_with : (k : Book) (h : List ℕ) (n : ℕ) (w : Work) → RoomFor k.words.now h n w →
+    AmpleWith k (length h) n w
+ample_with k h n w room = record {
   for_book = record { ample = room.ample; slots = room.slots; long = omega (arith, room.long) };
   long = room.long;
 }

@@ -1,25 +1,22 @@
 -- The sides of equations as rows, and a loop over the equations that looks whether they meet.
-use Rattle.std.proofs.Common.{◌≡◌, ℕ, ◌+◌, ◌-◌, ◌<◌, ◌≤◌, true, length, take, drop, is_some as option_is_some, Some, None}
-use Rattle.std.proofs.Common.{Option as Maybe, sym, refl, ◌∙◌, subst, arith}
+use Rattle.std.proofs.Common.{◌≡◌, ℕ, ◌+◌, ◌*◌, ◌<◌, ◌≤◌, Bool, true, false, List, length, get_or, is_some as option_is_some, Some, None}
+use Rattle.std.proofs.Common.{Option as Maybe, Ok, Err, Result, sym, refl, ◌∙◌, subst, arith}
 use native.Mathlib.Decide.{ℕ_discrete}
 use Rattle.rewriting.specs.Terms.{SmallLetter, Fits}
 use Rattle.rewriting.specs.Rules.{Eq, Meet}
 use Rattle.rewriting.specs.Books.{OneEnd, NoLess}
 use Rattle.rewriting.proofs.Signature.{over_fits}
 use Rattle.rewriting.proofs.Verdicts.{lost_by}
-use Rattle.store.specs.declared.types.Store.{Store}
-use Rattle.store.specs.declared.types.Roots.{Roots}
 use Rattle.books.specs.declared.row.Book.{Book}
 use Rattle.books.specs.Books.{told, SoundBook, blank, equation_in, EquationAt}
+use Rattle.books.specs.Rows.{row}
 use Rattle.books.proofs.Elements.{nth_below, nth_is}
-use Rattle.books.proofs.Bookish.{equation_sides, side_cut}
-use Rattle.engine.specs.declared.types.Frames.{Frames}
-use Rattle.engine.specs.declared.types.Compared.{Compared}
-use Rattle.engine.specs.declared.types.Compared.TheVariants.{Same, Different}
+use Rattle.books.proofs.Bookish.{equation_sides, equation_at}
+use Rattle.engine.specs.declared.types.NoRoom.{NoRoom}
+use Rattle.engine.specs.declared.work.Work.{Work}
 use Rattle.engine.specs.Meeting.{Ample, Working, LeftIdle, Compares}
 use Rattle.engine.specs.Pairs.{RowsOf, RowsCompared}
 use Rattle.equal.specs.Judging.{AmpleFor, KeptBefore, EquationsSay}
-use Rattle.equal.specs.declared.types.Equations.TheVariants.{Lost}
 
 module _ (b : Book) (sound : SoundBook b) (i : ℕ) (low : i < length (told b).eqs) where
   pub left_fits : Fits (told b).parts (equation_in b i).left
@@ -29,41 +26,40 @@ module _ (b : Book) (sound : SoundBook b) (i : ℕ) (low : i < length (told b).e
   right_fits = over_fits (told b).parts SmallLetter (equation_in b i).right (equation_sides b sound i low).right
 
   -- where its sides stand
-  module _ (a m z : ℕ) (at : EquationAt b i a m z) where
-    pub side_rows : RowsOf b (take (m - a) (drop a b.words.now)) (take (z - m) (drop m b.words.now))
-        (equation_in b i).left (equation_in b i).right
+  stands : EquationAt b i (start (2 * i)) (start (2 * i + 1)) (start (2 * i + 2))
+  stands = equation_at b sound i low (start (2 * i)) (start (2 * i + 1)) (start (2 * i + 2)) refl refl refl
+    where
+      abbrev start : ℕ → ℕ
+      start k = get_or b.layout.starts k 0
+
+  -- its sides as rows
+  module _ (ls rs : List ℕ) (left : ls ≡ row (equation_in b i).left) (right : rs ≡ row (equation_in b i).right) where
+    pub side_rows : RowsOf b ls rs (equation_in b i).left (equation_in b i).right
     side_rows = record {
-      left = record {
-        written = sym (side_cut b.words.now a m (equation_in b i).left at.left);
-        fits = (equation_sides b sound i low).left;
-      };
-      right = record {
-        written = sym (side_cut b.words.now m z (equation_in b i).right at.right);
-        fits = (equation_sides b sound i low).right;
-      };
+      left = record { written = sym left; fits = (equation_sides b sound i low).left };
+      right = record { written = sym right; fits = (equation_sides b sound i low).right };
     }
 
-    pub is_some : (st : Store) (q : Roots) (fr : Frames) (x : Maybe Compared) →
-        RowsCompared b st q fr (take (m - a) (drop a b.words.now)) (take (z - m) (drop m b.words.now)) x → option_is_some x ≡ true
-    is_some st q fr (Some x) h = refl
-    is_some st q fr None h = absurd (h ((equation_in b i).left, (equation_in b i).right, side_rows))
+    pub is_some : (w : Work) (x : Maybe (Result Bool NoRoom)) → RowsCompared b w ls rs x → option_is_some x ≡ true
+    is_some w (Some x) h = refl
+    is_some w None h = absurd (h ((equation_in b i).left, (equation_in b i).right, side_rows))
 
     -- what is found is of the sides
-    pub sides_compared : (n : ℕ) (st : Store) (q : Roots) (fr : Frames) → AmpleFor b n st q fr → (x : Compared) (y : Maybe Compared) →
-        y ≡ Some x → RowsCompared b st q fr (take (m - a) (drop a b.words.now)) (take (z - m) (drop m b.words.now)) y →
-        Compares b n (equation_in b i).left (equation_in b i).right x
-    sides_compared n st q fr e x y d h = (subst (λ (v : Maybe Compared). RowsCompared b st q fr (take (m - a) (drop a b.words.now))
-        (take (z - m) (drop m b.words.now)) v) d h).1 (equation_in b i).left (equation_in b i).right side_rows n e.ample
-        (omega (arith, at.left.long, at.left.within, e.long)) (omega (arith, at.right.long, at.right.within, e.long))
+    pub sides_compared : (n : ℕ) (w : Work) → AmpleFor b n w → (x : Result Bool NoRoom) (y : Maybe (Result Bool NoRoom)) → y ≡ Some x →
+        RowsCompared b w ls rs y → Compares b n (equation_in b i).left (equation_in b i).right x
+    sides_compared n w e x y d h =
+        (subst (λ (v : Maybe (Result Bool NoRoom)). RowsCompared b w ls rs v) d h).1 (equation_in b i).left (equation_in b i).right
+        side_rows n e.ample (omega (arith, stands.left.long, stands.left.within, e.long))
+        (omega (arith, stands.right.long, stands.right.within, e.long))
 
 -- nothing is done yet
-pub idle_start : (b : Book) (st : Store) (q : Roots) (fr : Frames) → Working b st → q.top ≡ 0 → LeftIdle b st q fr st q fr
-idle_start b st q fr w e = record { working = w; room = refl; cells = refl; words = refl; none = e }
+pub idle_start : (b : Book) (w : Work) → Working b w.store → w.roots.top ≡ 0 → LeftIdle b w w
+idle_start b w ok e = record { working = ok; room = refl; cells = refl; words = refl; none = e }
 
-module _ (b : Book) (st : Store) (q : Roots) (fr : Frames) (su : Store) (r : Roots) (gr : Frames) (idle : LeftIdle b st q fr su r gr) where
+module _ (b : Book) (w v : Work) (idle : LeftIdle b w v) where
   -- and what is done next
-  pub idle_on : (sv : Store) (o : Roots) (hr : Frames) → LeftIdle b su r gr sv o hr → LeftIdle b st q fr sv o hr
-  idle_on sv o hr h = record {
+  pub idle_on : (u : Work) → LeftIdle b v u → LeftIdle b w u
+  idle_on u h = record {
     working = h.working;
     room = h.room ∙ idle.room;
     cells = h.cells ∙ idle.cells;
@@ -71,14 +67,14 @@ module _ (b : Book) (st : Store) (q : Roots) (fr : Frames) (su : Store) (r : Roo
     none = h.none;
   }
 
-  pub ample_kept : (n : ℕ) → Ample n st q fr → Ample n su r gr
+  pub ample_kept : (n : ℕ) → Ample n w → Ample n v
   ample_kept n a = record {
     slots = omega (arith, a.slots, idle.room);
     cells = omega (arith, a.cells, idle.cells);
     words = omega (arith, a.words, idle.words);
   }
 
-  pub ample_on : (n : ℕ) → AmpleFor b n st q fr → AmpleFor b n su r gr
+  pub ample_on : (n : ℕ) → AmpleFor b n w → AmpleFor b n v
   ample_on n e = record {
     ample = ample_kept n e.ample;
     slots = omega (arith, e.slots, idle.room);
@@ -87,7 +83,7 @@ module _ (b : Book) (st : Store) (q : Roots) (fr : Frames) (su : Store) (r : Roo
 
 -- one more equation
 pub kept_more : (b : Book) (n i : ℕ) → KeptBefore b i →
-    Compares b n (equation_in b i).left (equation_in b i).right Same → KeptBefore b (i + 1)
+    Compares b n (equation_in b i).left (equation_in b i).right (Ok true) → KeptBefore b (i + 1)
 kept_more b n i kept same j l = at (ℕ_discrete j i)
   where
     at : Dec (j ≡ i) → Meet (told b).rules (equation_in b j).left (equation_in b j).right
@@ -102,7 +98,7 @@ kept_all b i l kept j e h =
 
 -- the first that is lost
 pub is_lost : (b : Book) → SoundBook b → OneEnd (told b) → (n i : ℕ) (low : i < length (told b).eqs) → KeptBefore b i →
-    Compares b n (equation_in b i).left (equation_in b i).right Different → EquationsSay b n (Lost i)
+    Compares b n (equation_in b i).left (equation_in b i).right (Ok false) → EquationsSay b n (Ok (Some i))
 is_lost b sound one n i low kept (v, w, hv, dv, hw, dw, differ) = (
   low,
   lost_by (told b) one (equation_in b i).left (equation_in b i).right v w (left_fits b sound i low) (right_fits b sound i low)

@@ -9,7 +9,7 @@ use Rattle.store.specs.Stores.{Sound, Carried}
 use Rattle.books.specs.declared.row.Book.{Book}
 use Rattle.books.specs.Books.{told, SoundBook, equation_in}
 use Rattle.books.proofs.Bookish.{is_equation}
-use Rattle.engine.specs.declared.types.Frames.{Frames}
+use Rattle.engine.specs.declared.work.Work.{Work}
 use Rattle.engine.specs.Meeting.{LeftIdle}
 use Rattle.engine.proofs.Honesty.{honest_carried}
 use Rattle.equal.specs.Judging.{LargeSide, Growing, RulesSay, by_ways}
@@ -24,15 +24,15 @@ side_large b sound n i low (u, steps, large) = at steps
     at (inr h) = ((equation_in b i).right, u, inr (i, equation_in b i, is_equation b sound i low, inr refl), h, large)
 
 -- the store may have changed as long as its flags and notes go back to those that were right
-pub idle_carried : (b : Book) (st : Store) (q : Roots) (fr : Frames) (su : Store) (r : Roots) (gr : Frames) → LeftIdle b st q fr su r gr →
-    (sv : Store) (o : Roots) → Sound sv → Carried su sv → sv.room ≡ su.room → length o.cells.now ≡ length r.cells.now →
-    o.top ≡ 0 → LeftIdle b st q fr sv o gr
-idle_carried b st q fr su r gr idle sv o sound carried room cells none = record {
+pub idle_carried : (b : Book) (w v : Work) → LeftIdle b w v → (st : Store) (q : Roots) → Sound st → Carried v.store st →
+    st.room ≡ v.store.room → length q.cells.now ≡ length v.roots.cells.now → q.top ≡ 0 →
+    LeftIdle b w (record { store = st; roots = q; frames = v.frames })
+idle_carried b w v idle st q sound carried room cells none = record {
   working = record {
     book = idle.working.book;
     down = idle.working.down;
     sound = sound;
-    honest = honest_carried (told b).rules su sv idle.working.honest carried;
+    honest = honest_carried (told b).rules v.store st idle.working.honest carried;
   };
   room = room ∙ idle.room;
   cells = cells ∙ idle.cells;

@@ -1,61 +1,39 @@
 // Whether the sides of each equation meet.
 ghost use Rattle.std.specs.Prelude.{◌≡◌, ℕ, ◌<◌, length};
 ghost use Rattle.rewriting.specs.Books.{OneEnd};
-ghost use Rattle.books.specs.Books.{told};
-ghost use Rattle.books.specs.Books.{equation_in};
-ghost use Rattle.engine.specs.Meeting.{Working, Compares};
-ghost use Rattle.engine.specs.Meeting.{LeftIdle};
-ghost use Rattle.equal.specs.Judging.{AmpleFor};
-ghost use Rattle.equal.specs.Judging.{EquationsSay};
+ghost use Rattle.books.specs.Books.{equation_in, told};
+ghost use Rattle.engine.specs.Meeting.{Compares, LeftIdle, Working};
+ghost use Rattle.equal.specs.Judging.{AmpleFor, EquationsSay};
 
-use crate::types::Equations;
 use books::Book;
-use engine::rows::compare_rows;
-use engine::types::{Compared, Frames};
-use store::{Roots, Store};
+use engine::types::NoRoom;
+use engine::work::Work;
 
-// Compares the sides of equation i.
-fn compare_sides(
-    book: &Book,
-    i: usize,
-    store: &mut Store,
-    roots: &mut Roots,
-    frames: &mut Frames,
-) -> Compared
-    requires working { (Working book.now store.old) × ((roots.old.top ≡ 0) × (i < length (told book.now).eqs)) }
-    requires by_index { (n : ℕ) × AmpleFor book.now n store.old roots.old frames.old }
-    ensures idle { LeftIdle book.now store.old roots.old frames.old
-        store.new roots.new frames.new }
-    ensures result { (n : ℕ) → AmpleFor book.now n store.old roots.old frames.old →
+// Whether the sides of equation i meet.
+fn sides_meet(book: &Book, i: usize, work: &mut Work) -> Result<bool, NoRoom>
+    requires working { (Working book.now work.old.store) × ((work.old.roots.top ≡ 0) × (i < length (told book.now).eqs)) }
+    requires by_index { (n : ℕ) × AmpleFor book.now n work.old }
+    ensures idle { LeftIdle book.now work.old work.new }
+    ensures result { (n : ℕ) → AmpleFor book.now n work.old →
         Compares book.now n (equation_in book.now i).left (equation_in book.now i).right result }
 {
-    let sides = book.equation(i);
-    let (from, middle, to) = (sides.left, sides.right, sides.end);
-    let left = &book.words[from..middle];
-    let right = &book.words[middle..to];
-    compare_rows(book, left, right, store, roots, frames).unwrap()
+    let left = book.equation_left(i);
+    let right = book.equation_right(i);
+    work.compare_rows(book, left, right).unwrap()
 }
 
 // The first equation whose sides don't meet, of a book in which all that comes from one term meets.
-pub fn first_lost(
-    book: &Book,
-    store: &mut Store,
-    roots: &mut Roots,
-    frames: &mut Frames,
-) -> Equations
-    requires working { (Working book.now store.old) × ((roots.old.top ≡ 0) × (OneEnd (told book.now))) }
-    requires by_index { (n : ℕ) × AmpleFor book.now n store.old roots.old frames.old }
-    ensures idle { LeftIdle book.now store.old roots.old frames.old
-        store.new roots.new frames.new }
-    ensures result { (n : ℕ) → AmpleFor book.now n store.old roots.old frames.old →
-        EquationsSay book.now n result }
+pub fn first_lost(book: &Book, work: &mut Work) -> Result<Option<usize>, NoRoom>
+    requires working { (Working book.now work.old.store) × ((work.old.roots.top ≡ 0) × (OneEnd (told book.now))) }
+    requires by_index { (n : ℕ) × AmpleFor book.now n work.old }
+    ensures idle { LeftIdle book.now work.old work.new }
+    ensures result { (n : ℕ) → AmpleFor book.now n work.old → EquationsSay book.now n result }
 {
     for i in 0..book.layout.equations() {
-        match compare_sides(book, i, store, roots, frames) {
-            Compared::Same => {}
-            Compared::Different => return Equations::Lost(i),
-            Compared::Room => return Equations::Room,
+        let meet = sides_meet(book, i, work)?;
+        if !meet {
+            return Ok(Some(i));
         }
     }
-    Equations::Kept
+    Ok(None)
 }

@@ -13,7 +13,7 @@ mod terms;
 pub mod types;
 mod words;
 
-use engine::work::{Work, share_out};
+use engine::work::share_out;
 use judging::judge_in;
 pub use settled_book::Settled;
 pub use terms::not_settled;
@@ -27,15 +27,10 @@ pub fn judge(book: &[u32], ways: &[u32], work: &mut [u32]) -> Judged
     if too_few(work.len(), book.len(), ways.len()) {
         return Judged::Few;
     }
-    let Some(share) = share_out(work) else {
+    let Some(mut work) = share_out(work) else {
         return Judged::Few;
     };
-    let Work {
-        mut store,
-        mut roots,
-        mut frames,
-    } = share;
-    judge_in(book, ways, &mut store, &mut roots, &mut frames)
+    judge_in(book, ways, &mut work)
 }
 
 // Whether two terms are equal by the equations of a book that settles them.
@@ -46,18 +41,13 @@ pub fn tell(book: &[u32], ways: &[u32], one: &[u32], other: &[u32], work: &mut [
     if too_few_with_terms(work.len(), book.len(), ways.len(), one.len(), other.len()) {
         return Told::Small;
     }
-    let Some(share) = share_out(work) else {
+    let Some(mut work) = share_out(work) else {
         return Told::Small;
     };
-    let Work {
-        mut store,
-        mut roots,
-        mut frames,
-    } = share;
-    match judge_in(book, ways, &mut store, &mut roots, &mut frames) {
+    match judge_in(book, ways, &mut work) {
         Judged::Settles => {
             let settled = Settled::new(book, ways);
-            settled.compare(one, other, &mut store, &mut roots, &mut frames)
+            settled.compare(one, other, &mut work)
         }
         answer => not_settled(answer),
     }

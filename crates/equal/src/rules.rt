@@ -1,18 +1,14 @@
 // Judging a book whose rules go down.
 ghost use Rattle.std.specs.Prelude.{◌≡◌, ℕ, length};
-ghost use Rattle.engine.specs.Meeting.{Working};
-ghost use Rattle.engine.specs.Meeting.{LeftIdle};
-ghost use Rattle.equal.specs.Judging.{AmpleWith};
-ghost use Rattle.equal.specs.Judging.{RulesSay};
-ghost use Rattle.equal.specs.Judging.{by_ways};
+ghost use Rattle.engine.specs.Meeting.{LeftIdle, Working};
+ghost use Rattle.equal.specs.Judging.{AmpleWith, RulesSay, by_ways, or_room};
 
 use crate::equations::first_lost;
-use crate::types::{Equations, Judged};
+use crate::types::Judged;
 use books::Book;
-use engine::types::Frames;
+use engine::types::NoRoom;
+use engine::work::Work;
 use overlaps::ends::one_end;
-use overlaps::types::Ends;
-use store::{Roots, Store};
 use ways::shown;
 
 // The answer by the ways, where all else is well.
@@ -27,30 +23,19 @@ fn by_ways(shown: bool) -> Judged
 }
 
 // What is to be said of a book whose rules go down: the first that fails of one end, the equations and the ways.
-pub fn judge_rules(
-    book: &Book,
-    ways: &[u32],
-    store: &mut Store,
-    roots: &mut Roots,
-    frames: &mut Frames,
-) -> Judged
-    requires working { (Working book.now store.old) × (roots.old.top ≡ 0) }
-    requires by_index { (n : ℕ) × AmpleWith book.now (length ways.now) n store.old roots.old frames.old }
-    ensures idle { LeftIdle book.now store.old roots.old frames.old
-        store.new roots.new frames.new }
-    ensures result { (n : ℕ) →
-        AmpleWith book.now (length ways.now) n store.old roots.old frames.old →
-        RulesSay book.now ways.now n result }
+pub fn judge_rules(book: &Book, ways: &[u32], work: &mut Work) -> Result<Judged, NoRoom>
+    requires working { (Working book.now work.old.store) × (work.old.roots.top ≡ 0) }
+    requires by_index { (n : ℕ) × AmpleWith book.now (length ways.now) n work.old }
+    ensures idle { LeftIdle book.now work.old work.new }
+    ensures result { (n : ℕ) → AmpleWith book.now (length ways.now) n work.old → RulesSay book.now ways.now n (or_room result) }
 {
-    match one_end(book, store, roots, frames) {
-        Ends::One => {}
-        Ends::Apart => return Judged::Apart,
-        Ends::Room => return Judged::Room,
+    let one = one_end(book, work)?;
+    if !one {
+        return Ok(Judged::Apart);
     }
-    match first_lost(book, store, roots, frames) {
-        Equations::Kept => {}
-        Equations::Lost(i) => return Judged::Lost(i),
-        Equations::Room => return Judged::Room,
+    if let Some(i) = first_lost(book, work)? {
+        return Ok(Judged::Lost(i));
     }
-    by_ways(shown(book, ways, store, roots))
+    let shown = shown(book, ways, &mut work.store, &mut work.roots);
+    Ok(by_ways(shown))
 }

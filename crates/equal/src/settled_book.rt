@@ -1,5 +1,4 @@
 // A book that settles its equations: a value that only a judged book can give.
-ghost use Rattle.books.specs.Books.{SoundBook};
 ghost use Rattle.equal.specs.declared.types.Judged.TheVariants.{Settles};
 ghost use Rattle.equal.specs.Promises.{JudgedSays};
 
@@ -11,6 +10,5 @@ use books::Book;
 pub struct Settled<'a, 'b> {
     pub(crate) book: Book<'a>,
     pub(crate) ways: &'b [u32],
-    ghost sound: { (SoundBook book → ⊥) → ⊥ },
     ghost settles: { (JudgedSays book.words.now ways.now Settles → ⊥) → ⊥ },
 }

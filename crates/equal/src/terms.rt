@@ -2,27 +2,23 @@
 ghost use Rattle.std.specs.Prelude.{◌≡◌, ℕ, ◌≤◌, length};
 ghost use Rattle.rewriting.specs.Theorems.{IsSettled};
 ghost use Rattle.books.specs.Books.{told};
-ghost use Rattle.engine.specs.Meeting.{Ample, Working};
-ghost use Rattle.engine.specs.Meeting.{LeftIdle};
-ghost use Rattle.equal.specs.Judging.{RowsSay};
-ghost use Rattle.equal.specs.Judging.{answer_of};
-ghost use Rattle.equal.specs.Judging.{not_settled};
+ghost use Rattle.engine.specs.Meeting.{Ample, LeftIdle, Working};
+ghost use Rattle.equal.specs.Judging.{RowsSay, answer_of, not_settled};
 
 use crate::types::{Judged, Told};
 use books::Book;
-use engine::rows::compare_rows;
-use engine::types::{Compared, Frames};
-use store::{Roots, Store};
+use engine::types::NoRoom;
+use engine::work::Work;
 
 // The answer by what was found of two rows.
-fn answer(found: Option<Compared>) -> Told
+fn answer(found: Option<Result<bool, NoRoom>>) -> Told
     ensures { result ≡ answer_of found }
 {
     match found {
         None => Told::NoTerm,
-        Some(Compared::Same) => Told::Same,
-        Some(Compared::Different) => Told::Different,
-        Some(Compared::Room) => Told::Full,
+        Some(Ok(true)) => Told::Same,
+        Some(Ok(false)) => Told::Different,
+        Some(Err(NoRoom)) => Told::Full,
     }
 }
 
@@ -37,20 +33,11 @@ pub fn not_settled(judged: Judged) -> Told
 }
 
 // What is to be said of two rows by a book that settles its equations.
-pub fn compare_terms(
-    book: &Book,
-    one: &[u32],
-    other: &[u32],
-    store: &mut Store,
-    roots: &mut Roots,
-    frames: &mut Frames,
-) -> Told
-    requires { (Working book.now store.old) × ((roots.old.top ≡ 0) × (IsSettled (told book.now))) }
-    ensures idle { LeftIdle book.now store.old roots.old frames.old
-        store.new roots.new frames.new }
-    ensures result { (n : ℕ) → Ample n store.old roots.old frames.old →
-        length one.now ≤ n → length other.now ≤ n →
+pub fn compare_terms(book: &Book, one: &[u32], other: &[u32], work: &mut Work) -> Told
+    requires { (Working book.now work.old.store) × ((work.old.roots.top ≡ 0) × (IsSettled (told book.now))) }
+    ensures idle { LeftIdle book.now work.old work.new }
+    ensures result { (n : ℕ) → Ample n work.old → length one.now ≤ n → length other.now ≤ n →
         RowsSay book.now n one.now other.now result }
 {
-    answer(compare_rows(book, one, other, store, roots, frames))
+    answer(work.compare_rows(book, one, other))
 }

@@ -1,7 +1,7 @@
 // The answers.
 
 // What is said of a book: it settles its equations; or the first thing that fails; or that there are too few words to tell.
-#[derive(Clone, Copy, PartialEq, Eq)]
+#[derive(Clone, Copy, Debug, PartialEq, Eq)]
 pub enum Judged {
     Settles,
     Up(usize),
@@ -14,7 +14,7 @@ pub enum Judged {
 }
 
 // What is said of two terms.
-#[derive(Clone, Copy, PartialEq, Eq)]
+#[derive(Clone, Copy, Debug, PartialEq, Eq)]
 pub enum Told {
     Same,
     Different,
@@ -23,12 +23,4 @@ pub enum Told {
     Full,
     Unjudged,
     Small,
-}
-
-// What is found of a book's equations: the sides of each meet; the first whose sides don't; or that there is no room to tell.
-#[derive(Clone, Copy)]
-pub enum Equations {
-    Kept,
-    Lost(usize),
-    Room,
 }

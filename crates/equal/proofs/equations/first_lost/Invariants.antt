@@ -4,5 +4,4 @@ use Rattle.equal.specs.Judging.{KeptBefore}
 use Rattle.equal.proofs.equations.first_lost.Given as goal
 
 abbrev pub invariant-loop-i : goal.invariant-loop-i
-invariant-loop-i l = LeftIdle l.book l.initial.store l.initial.roots l.initial.frames l.store l.roots l.frames
-    × KeptBefore l.book l.i
+invariant-loop-i l = LeftIdle l.book l.initial.work l.work × KeptBefore l.book l.i

@@ -5,7 +5,6 @@ use Rattle.equal.proofs.terms.compare_terms.Goals as goal
 pub returns : goal.returns
 returns c = record {
   idle = c.compare_rows.ensures.idle;
-  result = λ n a short-x short-y. says_answer c.args.book.now c.args.store.now c.requires.0 c.requires.1.1 c.args.roots.now
-      c.args.frames.now n a c.args.one.now c.args.other.now short-x short-y c.compare_rows.result
-      c.compare_rows.ensures.result c.answer.result c.answer.ensures;
+  result = λ n a short-x short-y. says_answer c.args.book.now c.args.work.now c.requires.0 c.requires.1.1 n a c.args.one.now
+      c.args.other.now short-x short-y c.compare_rows.result c.compare_rows.ensures.result c.answer.result c.answer.ensures;
 }
