@@ -46,9 +46,7 @@ module _ (b : Book) (w : Work) where
   -- the upper of two roots may be brought to normal form
   pub upper : Working b w.store → TwoRoots b w → Startable b w
   upper ok t = record {
-    book = ok.book;
     down = ok.down;
-    sound = ok.sound;
     honest = ok.honest;
     inside = t.inside;
     some = omega (arith, t.two);
@@ -58,7 +56,7 @@ module _ (b : Book) (w : Work) where
   module _ (v : Work) where
     -- the store works on
     pub working_on : {x : _} → Working b w.store → Normalized b w v x → Working b v.store
-    working_on ok n = record { book = ok.book; down = ok.down; sound = n.sound; honest = n.honest }
+    working_on ok n = record { down = ok.down; honest = n.honest }
 
     -- the upper root's normal form, with the lower one kept
     pub steps_upper : w.roots.top ≡ 2 → Normalized b w v (Ok tt) → Steps rs (root_term w 1) (root_term v 1)
@@ -111,9 +109,7 @@ module _ (b : Book) (w : Work) (ok : Working b w.store) (t : TwoRoots b w)
   -- the other root is next
   pub other : Startable b turned
   other = record {
-    book = ok.book;
     down = ok.down;
-    sound = one.sound;
     honest = one.honest;
     inside = record {
       fits = omega (arith, x.long, x.top, one.inside.fits);

@@ -107,7 +107,7 @@ module _ (rs : List Eq) (low : ℕ) (st : Store) (q : Roots) (fr : Frames) (p : 
           let z : q.top + j ≡ i = omega arith in
           let e : root_in r i ≡ part_in st p.0 (j + 1) =
           ap (λ (x : ℕ). root_in r x) (sym z) ∙ o.parts j (omega (arith, o.top)) in
-          let b = run1.sound.shared.shape.below p.0 (j + 1) run1.focus (omega (arith, o.top, arity)) in
+          let b = st.shared.shape.below p.0 (j + 1) run1.focus (omega (arith, o.top, arity)) in
           omega (arith, e, b, run1.focus)
 
   asked : Asks (AskedFor rs st gr) (frame f none1 ts ∷ ks) t0
@@ -124,7 +124,6 @@ module _ (rs : List Eq) (low : ℕ) (st : Store) (q : Roots) (fr : Frames) (p : 
 
   running : Running rs low (work st r gr) (Eval first)
   running = record {
-    sound = run1.sound;
     honest = run1.honest;
     inside = record { fits = omega (arith, space.roots, o.cells, o.top); low = low_roots };
     framed = framed;
@@ -136,7 +135,7 @@ module _ (rs : List Eq) (low : ℕ) (st : Store) (q : Roots) (fr : Frames) (p : 
 
   pub gone_in : TurnedTo rs low (work st q fr) (Eval p) (work st r gr) (Eval first)
   gone_in = record {
-    holding = holding_same rs st p run1.sound run1.honest;
+    holding = holding_same rs st p run1.honest;
     running = running;
     goes = (
       state_in (work st r gr) (Eval first),

@@ -47,7 +47,6 @@ module _ (rs : List Eq) where
       pub running_to : (e : Focus) → focus_place e < su.count → Steps rs (term_in st (focus_place c)) (term_in su (focus_place e)) →
           Running rs low (work su q fr) e
       running_to e l s = record {
-        sound = h.sound;
         honest = h.honest;
         inside = record {
           fits = run1.inside.fits;

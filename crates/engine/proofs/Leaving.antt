@@ -70,7 +70,7 @@ module _ (b : Book) (low : ℕ) (st : Store) (q : Roots) (fr : Frames) (v : Plac
         subst (λ (ls : List ModelFrame). Move rs (state ls (back tv)) (state ks (apply x.sign (behind bs tv)))) (sym frames_were) go_out
 
     valid : Valid (told b) (state ks (apply x.sign (behind bs tv)))
-    valid = move_valid (told b) ready.book.reads.fine ready.down out ready.valid
+    valid = move_valid (told b) b.reads.fine ready.down out ready.valid
 
     module _ (ps : List Place) (su : Store) (p : Place) (parts : PartsGathered q a x.others v ps)
         (shared : SignShared st x.sign ps (x.others + 1) su p) where
@@ -90,9 +90,7 @@ module _ (b : Book) (low : ℕ) (st : Store) (q : Roots) (fr : Frames) (v : Plac
 
       pub rewritable : Rewritable b su p
       rewritable = record {
-        book = ready.book;
         down = ready.down;
-        sound = shared.sound;
         inside = shared.inside;
         fits = subst (Fits (told b).parts) (sym sign_is)
             (plug_fits (told b).parts ks (sign x.sign (behind bs tv)) valid.fits).1;
@@ -149,7 +147,6 @@ module _ (b : Book) (low : ℕ) (st : Store) (q : Roots) (fr : Frames) (v : Plac
 
         running : Running rs low (work sv r gr) e
         running = record {
-          sound = hold.sound;
           honest = hold.honest;
           inside = record {
             fits = omega (arith, ready.running.inside.fits, ap length cut.cells, cut.top);

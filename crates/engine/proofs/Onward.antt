@@ -140,7 +140,6 @@ module _ (rs : List Eq) (low : ℕ) (st : Store) (q : Roots) (fr : Frames) (v : 
 
     running : Running rs low (work st r gr) (Eval next)
     running = record {
-      sound = run1.sound;
       honest = run1.honest;
       inside = record { fits = omega (arith, run1.inside.fits, s.long, s.top); low = low_roots };
       framed = framed;
@@ -152,7 +151,7 @@ module _ (rs : List Eq) (low : ℕ) (st : Store) (q : Roots) (fr : Frames) (v : 
 
     pub gone_on : TurnedTo rs low (work st q fr) (Back v) (work st r gr) (Eval next)
     gone_on = record {
-      holding = holding_same rs st v run1.sound run1.honest;
+      holding = holding_same rs st v run1.honest;
       running = running;
       goes = (
         state_in (work st r gr) (Eval next),

@@ -8,7 +8,7 @@ use Rattle.rewriting.specs.Different.{different, listed}
 use Rattle.rewriting.proofs.Signature.{over_fits}
 use Rattle.rewriting.proofs.Different.{different_size}
 use Rattle.books.specs.declared.row.Book.{Book}
-use Rattle.books.specs.Books.{told, SoundBook}
+use Rattle.books.specs.Books.{told}
 use Rattle.books.specs.Rows.{Of}
 use Rattle.books.specs.Layouts.{FewParts}
 use Rattle.books.proofs.Heads.{head_of}
@@ -17,7 +17,7 @@ use Rattle.store.specs.declared.types.Store.{Store}
 use Rattle.store.specs.declared.types.Roots.{Roots}
 use Rattle.store.specs.declared.types.Full.{Full}
 use Rattle.store.specs.declared.types.Full.TheVariants.{NoSlot, NoRoot}
-use Rattle.store.specs.Stores.{Sound, held, Inside, RootsKept}
+use Rattle.store.specs.Stores.{held, Inside, RootsKept}
 use Rattle.store.specs.Stacks.{CutTo}
 use Rattle.store.specs.Transfers.{RowOf, Read}
 use Rattle.engine.specs.declared.types.NoRoom.{NoRoom}
@@ -29,9 +29,9 @@ use Rattle.engine.proofs.Honesty.{honest_carried}
 use Rattle.engine.proofs.Comparing.{both_parts}
 
 -- the signature of a book
-module _ (k : Book) (sound : SoundBook k) (ps : List ℕ) (e : ps ≡ (told k).parts) where
+module _ (k : Book) (ps : List ℕ) (e : ps ≡ (told k).parts) where
   pub few : FewParts ps
-  few = book_parts k.words.now (told k) sound.reads ps (e ∙ sym (head_of k.words.now (told k) sound.reads).parts)
+  few = book_parts k.words.now (told k) k.reads ps (e ∙ sym (head_of k.words.now (told k) k.reads).parts)
 
   pub row_here : (ws : List ℕ) (t : Term) → Of (told k).parts ws t → RowOf ps ws t
   row_here ws t o = record {
@@ -74,7 +74,7 @@ module _ (a : Store) (q : Roots) (t : Term) (b : Store) (r : Roots) where
   too_large NoSlot h n s c z l d = omega (arith, h.roots.1, s, d)
   too_large NoRoot h n s c z l d = h.roots.1 (omega (arith, c, z, l))
 
-module _ (k : Book) (sound : SoundBook k) (ps : List ℕ) (e : ps ≡ (told k).parts) (w : Work) (z : w.roots.top ≡ 0)
+module _ (k : Book) (ps : List ℕ) (e : ps ≡ (told k).parts) (w : Work) (z : w.roots.top ≡ 0)
     (ls rs : List ℕ) (two : TwoRows k ls rs) (su : Store) (r : Roots) where
   abbrev with_one : Work
   with_one = record { store = su; roots = r; frames = w.frames }
@@ -83,34 +83,31 @@ module _ (k : Book) (sound : SoundBook k) (ps : List ℕ) (e : ps ≡ (told k).p
       (x : Result (Unit {0}) NoRoom) → IsErr x → RowsRead k w ls rs with_one x
   no_first h (Ok _) g = absurd (false≢true g)
   no_first {f} h (Err _) g =
-      let one = h two.0 (row_here k sound ps e ls two.0 two.2.left) in
+      let one = h two.0 (row_here k ps e ls two.0 two.2.left) in
       record {
         sound = one.sound;
         honest = λ es g. honest_carried es w.store su g one.carried;
         room = one.room;
         cells = (kept_then w.store w.roots two.0 su r f one).long;
         frames = refl;
-        result = λ t u o m a l l2. too_large w.store w.roots t su r f (h t (row_here k sound ps e ls t o.left)) m a.slots a.cells
+        result = λ t u o m a l l2. too_large w.store w.roots t su r f (h t (row_here k ps e ls t o.left)) m a.slots a.cells
             (omega (arith, z)) l
             (subst (λ (i : ℕ). different (t ∷ listed (root_term w) i) ≤ 2 * m) (sym z) (omega (arith, different_size t, l)));
       }
 
   module _ (first : (t : Term) → RowOf ps ls t → Read w.store w.roots t su r (Ok tt)) where
     one_top : r.top ≡ 1
-    one_top = omega (arith, (first two.0 (row_here k sound ps e ls two.0 two.2.left)).roots.top, z)
+    one_top = omega (arith, (first two.0 (row_here k ps e ls two.0 two.2.left)).roots.top, z)
 
     one_held : (t : Term) → Of (told k).parts ls t → held su r 0 ≡ t
-    one_held t o = subst (λ (i : ℕ). held su r i ≡ t) z (first t (row_here k sound ps e ls t o)).roots.term
+    one_held t o = subst (λ (i : ℕ). held su r i ≡ t) z (first t (row_here k ps e ls t o)).roots.term
 
     one_read : Read w.store w.roots two.0 su r (Ok tt)
-    one_read = first two.0 (row_here k sound ps e ls two.0 two.2.left)
+    one_read = first two.0 (row_here k ps e ls two.0 two.2.left)
 
     -- the right row is next
     pub next_inside : Inside su r
     next_inside = one_read.roots.inside
-
-    pub next_sound : Sound su
-    next_sound = one_read.sound
 
     module _ (sv : Store) (v : Roots) where
       abbrev with_two : Work
@@ -120,14 +117,14 @@ module _ (k : Book) (sound : SoundBook k) (ps : List ℕ) (e : ps ≡ (told k).p
           (x : Result (Unit {0}) NoRoom) → IsErr x → RowsRead k w ls rs with_two x
       no_second h (Ok _) g = absurd (false≢true g)
       no_second {f} h (Err _) g =
-          let one = h two.1 (row_here k sound ps e rs two.1 two.2.right) in
+          let one = h two.1 (row_here k ps e rs two.1 two.2.right) in
           record {
             sound = one.sound;
             honest = λ es g. honest_carried es su sv (honest_carried es w.store su g one_read.carried) one.carried;
             room = one.room ∙ one_read.room;
             cells = (kept_then su r two.1 sv v f one).long ∙ one_read.roots.long;
             frames = refl;
-            result = λ t u w m a l o. too_large su r u sv v f (h u (row_here k sound ps e rs u w.right)) m
+            result = λ t u w m a l o. too_large su r u sv v f (h u (row_here k ps e rs u w.right)) m
                 (omega (arith, a.slots, one_read.room)) (omega (arith, a.cells, one_read.roots.long)) (omega (arith, one_top)) o
                 (subst (λ (i : ℕ). different (u ∷ listed (λ j. held su r j) i) ≤ 2 * m) (sym one_top)
                 (subst (λ (x : Term). different (u ∷ x ∷ []) ≤ 2 * m) (sym (one_held t w.left))
@@ -136,7 +133,7 @@ module _ (k : Book) (sound : SoundBook k) (ps : List ℕ) (e : ps ≡ (told k).p
 
       pub both_read : ((u : Term) → RowOf ps rs u → Read su r u sv v (Ok tt)) → RowsRead k w ls rs with_two (Ok tt)
       both_read h =
-          let one = h two.1 (row_here k sound ps e rs two.1 two.2.right) in
+          let one = h two.1 (row_here k ps e rs two.1 two.2.right) in
           record {
             sound = one.sound;
             honest = λ es g. honest_carried es su sv (honest_carried es w.store su g one_read.carried) one.carried;
@@ -147,14 +144,14 @@ module _ (k : Book) (sound : SoundBook k) (ps : List ℕ) (e : ps ≡ (told k).p
               omega (arith, one.roots.top, one_top),
               one.roots.inside,
               one.roots.terms 0 (omega (arith, one_top)) ∙ one_held t w.left,
-              subst (λ (i : ℕ). held sv v i ≡ u) one_top (h u (row_here k sound ps e rs u w.right)).roots.term,
+              subst (λ (i : ℕ). held sv v i ≡ u) one_top (h u (row_here k ps e rs u w.right)).roots.term,
             );
           }
 
 -- what is compared then
 module _ (b : Book) (w : Work) (ok : Working b w.store) (ls rs : List ℕ) (two : TwoRows b ls rs) (v : Work) where
   pub works : {x : _} → RowsRead b w ls rs v x → Working b v.store
-  works h = record { book = ok.book; down = ok.down; sound = h.sound; honest = h.honest (told b).rules ok.honest }
+  works h = record { down = ok.down; honest = h.honest (told b).rules ok.honest }
 
   module _ (h : RowsRead b w ls rs v (Ok tt)) where
     pub two_here : TwoRoots b v

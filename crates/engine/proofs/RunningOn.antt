@@ -13,6 +13,7 @@ use Rattle.rewriting.proofs.Different.{listed_same}
 use Rattle.store.specs.declared.types.Store.{Store}
 use Rattle.store.specs.declared.types.Roots.{Roots}
 use Rattle.store.specs.declared.types.Place.{Place}
+use Rattle.store.proofs.Sounds.{sound_in}
 use Rattle.store.specs.Roots.{root_at}
 use Rattle.store.specs.Stacks.{root_in, StackedOn, CutTo}
 use Rattle.store.specs.Stores.{term_in, held}
@@ -20,7 +21,7 @@ use Rattle.books.specs.declared.row.Book.{Book}
 use Rattle.books.specs.Books.{told}
 use Rattle.engine.specs.declared.types.Frames.{Frames}
 use Rattle.engine.specs.declared.types.Focus.{Focus}
-use Rattle.engine.specs.declared.types.Focus.TheVariants.{Eval}
+use Rattle.engine.specs.declared.types.Focus.TheVariants.{Eval, Back}
 use Rattle.engine.specs.Frames.{Emptied}
 use Rattle.engine.specs.Running.{Framed, frames_of, frames_in, state_in, Asks, AskedFor}
 use Rattle.engine.specs.Turning.{Goes, Ready, KeptBelow, TurnedTo}
@@ -54,7 +55,6 @@ module _ (b : Book) (low : ℕ) where
 
   ready_on : (w : Work) (c : Focus) (v : Work) (e : Focus) → Ready b low w c → WithSpace rs low w c v e → Ready b low v e
   ready_on w c v e ready s = record {
-    book = ready.book;
     down = ready.down;
     running = s.running;
     valid = subst (Valid (told b)) (sym s.same) ready.valid;
@@ -68,14 +68,18 @@ module _ (b : Book) (low : ℕ) where
       let t = turn now1 in
       record {
         ready = record {
-          book = ready.book;
           down = ready.down;
           running = t.running;
-          valid = moves_valid (told b) ready.book.reads.fine ready.down (move t.goes.1 t.goes.2) now1.valid;
+          valid = moves_valid (told b) b.reads.fine ready.down (move t.goes.1 t.goes.2) now1.valid;
         };
         goes = subst (λ (y : State). Goes rs y (state_in u x)) s.same t.goes;
         kept = kept_on low w v u s.kept t.kept;
       }
+
+  -- no frame is left
+  pub ended : (w : Work) (c : Focus) (v : Work) (p : Place) → Ready b low w c → WithSpace rs low w c v (Back p) →
+      v.frames.depth ≡ 0 → Ended b low w c v p
+  ended w c v p ready s d = record { ready = ready_on w c v (Back p) ready s; same = s.same; depth = d; kept = s.kept }
 
   -- so far, from a first state of the whole t
   pub record Underway (w : Work) (t : Term) (v : Work) (e : Focus) : Type 0 where
@@ -100,7 +104,7 @@ module _ (b : Book) (low : ℕ) where
 
     pub falls : (x : Focus) → Went b low v e z x → cost (told b) (state_in z x) < cost (told b) (state_in v e)
     falls x s =
-        let fine = u.ready.book.reads.fine in
+        let fine = b.reads.fine in
         let down = u.ready.down in
         let y = s.goes.0 in
         omega (
@@ -157,10 +161,8 @@ module _ (b : Book) (w0 : Work) (can : Startable b w0) (q : Roots) (cut : CutTo 
 
   pub first_ready : Ready b low (work st q fr) (Eval p)
   first_ready = record {
-    book = can.book;
     down = can.down;
     running = record {
-      sound = can.sound;
       honest = can.honest;
       inside = record {
         fits = omega (arith, ap length cut.cells, cut.top, can.inside.fits);
@@ -192,7 +194,7 @@ module _ (b : Book) (w0 : Work) (can : Startable b w0) (q : Roots) (cut : CutTo 
         let k = kept_all d.kept in
         let is : held z.store o low ≡ term_in z.store x.0 = ap (term_in z.store) on.is in
         record {
-          sound = d.ready.running.sound;
+          sound = sound_in z.store;
           honest = d.ready.running.honest;
           inside = record {
             fits = omega (arith, on.long, on.top, k.cells, ap length cut.cells, can.inside.fits, can.some);

@@ -1,5 +1,5 @@
 -- Space for a turn: after a collection, and where it is wanting.
-use Rattle.std.proofs.Common.{◌≡◌, ℕ, zero, suc, ◌+◌, ◌-◌, ◌*◌, ◌<◌, ◌≤◌, false, List, [], ◌∷◌, length, Ok, Err, Result, sym, refl, ap, ◌∙◌}
+use Rattle.std.proofs.Common.{◌≡◌, ℕ, zero, suc, ◌+◌, ◌-◌, ◌*◌, ◌<◌, ◌≤◌, List, [], ◌∷◌, length, Ok, Err, Result, sym, refl, ap, ◌∙◌}
 use Rattle.std.proofs.Common.{subst, ap₂, add-one, arith, IsErr}
 use Rattle.std.proofs.lemmas.Bool.{false≢true}
 use native.Mathlib.Decide.{dec_lt}
@@ -14,6 +14,8 @@ use Rattle.rewriting.proofs.Framing.{part_plug}
 use Rattle.store.specs.declared.types.Store.{Store}
 use Rattle.store.specs.declared.types.Roots.{Roots}
 use Rattle.store.specs.declared.types.Place.{Place}
+use Rattle.store.specs.declared.types.Full.{Full}
+use Rattle.store.proofs.Sounds.{sound_in}
 use Rattle.store.specs.Roots.{root_at}
 use Rattle.store.specs.Stacks.{root_in, StackedOn, CutTo}
 use Rattle.store.specs.Stores.{term_in, held, Inside}
@@ -31,7 +33,7 @@ use Rattle.engine.proofs.Contexts.{work, frames_same, framed_same, framed_low, f
 
 -- a place on top of the roots
 module _ (st : Store) (q : Roots) (p : Place) (q1 : Roots) (s : StackedOn q q.top p.0 q1) where
-  module _ (su : Store) (r1 : Roots) (v : Reserved st q1 33 su r1 false) (r : Roots) (cut : CutTo r1 q.top r) where
+  module _ (su : Store) (r1 : Roots) (full : Full) (v : Reserved st q1 33 su r1 (Err full)) (r : Roots) (cut : CutTo r1 q.top r) where
     abbrev root_same : (k : ℕ) → root_in r k ≡ root_in r1 k
     root_same k = ap (λ (cs : List ℕ). root_at cs k) cut.cells
 
@@ -65,7 +67,7 @@ module _ (st : Store) (q : Roots) (p : Place) (q1 : Roots) (s : StackedOn q q.to
           inside = inside_cut;
           terms = terms_cut;
           forgotten = forgotten;
-          result = subst (λ (ts : List Term). st.room < different ts + 33) e v.space;
+          result = subst (λ (ts : List Term). st.room < different ts + 33) e v.space.1;
         }
 
 pub framed_few : (ws : List ℕ) (d end low : ℕ) → Framed ws d end low → end ≤ low + 3 * d
@@ -95,7 +97,7 @@ module _ (rs : List Eq) (low : ℕ) (st : Store) (q : Roots) (fr : Frames) (c : 
 
   halted_same : Wanting st.room (length fr.words.now) (length q.cells.now) low g u → Halted rs low (work st q fr) u (work st q fr)
   halted_same w = record {
-    sound = run1.sound;
+    sound = sound_in st;
     honest = run1.honest;
     inside = run1.inside;
     enough = framed_low fr.words.now fr.depth q.top low run1.framed;
@@ -181,7 +183,6 @@ module _ (rs : List Eq) (low : ℕ) (st : Store) (q : Roots) (fr : Frames) (c : 
         let z : term_in su o.0 ≡ t = k.result.1 ∙ term_at in
         record {
           running = record {
-            sound = k.sound;
             honest = honest_carried rs st su run1.honest k.carried;
             inside = k.inside;
             framed = subst (λ (d : ℕ). Framed gr.words.now d r.top low) (sym k.forgotten.depth)

@@ -36,9 +36,7 @@ module _ (b : Book) (low : ℕ) (st : Store) (q : Roots) (fr : Frames) where
   module _ (p : Place) (ready : Ready b low (work st q fr) (Eval p)) where
     pub eval_rewritable : Rewritable b st p
     eval_rewritable = record {
-      book = ready.book;
       down = ready.down;
-      sound = ready.running.sound;
       inside = ready.running.focus;
       fits = (plug_fits (told b).parts (frames_in (work st q fr)) (term_in st p.0) ready.valid.fits).1;
     }

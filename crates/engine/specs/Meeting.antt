@@ -7,9 +7,9 @@ use Rattle.rewriting.specs.Different.{different}
 use Rattle.store.specs.declared.types.Store.{Store}
 use Rattle.store.specs.declared.types.Roots.{Roots}
 use Rattle.store.specs.Stacks.{root_in}
-use Rattle.store.specs.Stores.{Sound, Inside}
+use Rattle.store.specs.Stores.{Inside}
 use Rattle.books.specs.declared.row.Book.{Book}
-use Rattle.books.specs.Books.{told, SoundBook}
+use Rattle.books.specs.Books.{told}
 use Rattle.engine.specs.declared.types.NoRoom.{NoRoom}
 use Rattle.engine.specs.declared.work.Work.{Work}
 use Rattle.engine.specs.Running.{Honest}
@@ -25,11 +25,9 @@ pub record Ample (n : ℕ) (w : Work) : Type 0 where
   pub cells : 6 * n + 256 ≤ length w.roots.cells.now
   pub words : 4 * n + 16 ≤ length w.frames.words.now
 
--- the rules go down, the store is sound, and its flags and notes are right
+-- the rules go down, and the store's flags and notes are right
 pub record Working (b : Book) (st : Store) : Type 0 where
-  pub book : SoundBook b
   pub down : AllDown (rank (told b).ranks) (told b).rules
-  pub sound : Sound st
   pub honest : Honest (told b).rules st
 
 -- that stays so; no words are lost, and no roots are left

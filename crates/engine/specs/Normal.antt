@@ -5,7 +5,7 @@ use Rattle.rewriting.specs.Rules.{Steps, Done}
 use Rattle.rewriting.specs.Order.{rank, AllDown}
 use Rattle.store.specs.Stores.{Sound, held, Inside}
 use Rattle.books.specs.declared.row.Book.{Book}
-use Rattle.books.specs.Books.{told, SoundBook}
+use Rattle.books.specs.Books.{told}
 use Rattle.engine.specs.declared.types.NoRoom.{NoRoom}
 use Rattle.engine.specs.declared.work.Work.{Work}
 use Rattle.engine.specs.Running.{Honest}
@@ -17,9 +17,7 @@ root_term w i = held w.store w.roots i
 
 -- the rules go down, and the uppermost root's term is over the signature
 pub record Startable (b : Book) (w : Work) : Type 0 where
-  pub book : SoundBook b
   pub down : AllDown (rank (told b).ranks) (told b).rules
-  pub sound : Sound w.store
   pub honest : Honest (told b).rules w.store
   pub inside : Inside w.store w.roots
   pub some : 0 < w.roots.top

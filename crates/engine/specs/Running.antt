@@ -69,7 +69,6 @@ pub record Honest (rs : List Eq) (st : Store) : Type 0 where
 
 -- what stays true
 pub record Running (rs : List Eq) (low : ℕ) (w : Work) (c : Focus) : Type 0 where
-  pub sound : Sound w.store
   pub honest : Honest rs w.store
   pub inside : Inside w.store w.roots
   pub framed : Framed w.frames.words.now w.frames.depth w.roots.top low

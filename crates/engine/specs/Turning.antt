@@ -11,7 +11,7 @@ use Rattle.store.specs.Stores.{term_in, part_in, held}
 use Rattle.store.specs.Stacks.{root_in}
 use Rattle.store.specs.Roots.{HasRoots}
 use Rattle.books.specs.declared.row.Book.{Book}
-use Rattle.books.specs.Books.{told, SoundBook}
+use Rattle.books.specs.Books.{told}
 use Rattle.engine.specs.declared.types.Frame.{Frame}
 use Rattle.engine.specs.declared.types.Focus.{Focus}
 use Rattle.engine.specs.declared.types.Focus.TheVariants.{Eval, Back}
@@ -55,7 +55,6 @@ pub record SpaceForTurn (w : Work) : Type 0 where
 
 -- a turn can be taken
 pub record Ready (k : Book) (low : ℕ) (w : Work) (c : Focus) : Type 0 where
-  pub book : SoundBook k
   pub down : AllDown (rank (told k).ranks) (told k).rules
   pub running : Running (told k).rules low w c
   pub valid : Valid (told k) (state_in w c)

@@ -1,8 +1,6 @@
 // Two rows whose terms are compared by a book's rules.
 ghost use Rattle.std.specs.Prelude.{◌≡◌};
 ghost use Rattle.rewriting.specs.Answers.{Tells};
-ghost use Rattle.store.specs.Stores.{Sound};
-ghost use Rattle.books.specs.Books.{SoundBook};
 ghost use Rattle.engine.specs.Meeting.{Working, LeftIdle};
 ghost use Rattle.engine.specs.Pairs.{TwoRows, RowsRead, RowsCompared};
 
@@ -19,7 +17,6 @@ impl From<Full> for NoRoom {
 
 // Whether both are rows of terms over the book's signature, with letters below 16.
 fn are_terms(book: &Book, left: &[u32], right: &[u32]) -> bool
-    requires { SoundBook book.now }
     ensures { Tells result (TwoRows book.now left.now right.now) }
 {
     is_term(book.parts(), left) && is_term(book.parts(), right)
@@ -28,8 +25,7 @@ fn are_terms(book: &Book, left: &[u32], right: &[u32]) -> bool
 impl Work<'_> {
     // Reads two rows: the lower root holds the left term, the upper one the right.
     fn read_rows(&mut self, book: &Book, left: &[u32], right: &[u32]) -> Result<(), NoRoom>
-        requires sound_book { (SoundBook book.now) × (TwoRows book.now left.now right.now) }
-        requires sound { (Sound self.old.store) × (self.old.roots.top ≡ 0) }
+        requires { (TwoRows book.now left.now right.now) × (self.old.roots.top ≡ 0) }
         ensures { RowsRead book.now self.old left.now right.now self.new result }
     {
         self.store.read_row(&mut self.roots, book.parts(), left)?;

@@ -1,6 +1,6 @@
 // Space for the next turn of the machine: slots, cells for roots and words for a frame.
 ghost use Rattle.std.specs.Prelude.{◌≡◌, ℕ, ◌+◌, ◌-◌, ◌*◌, ◌<◌, ◌≤◌};
-ghost use Rattle.store.specs.Stores.{Sound, Inside};
+ghost use Rattle.store.specs.Stores.{Inside};
 ghost use Rattle.store.specs.Roots.{HasRoots};
 ghost use Rattle.engine.specs.Running.{Running, focus_place};
 ghost use Rattle.engine.specs.Spacing.{Collected, focus_at, SpaceOrHalted};
@@ -31,16 +31,16 @@ impl Focus {
 impl Work<'_> {
     // Makes room for 33 slots, with the term at p kept: the place where it is then. What frames asked for is forgotten.
     fn collect(&mut self, p: Place) -> Result<Place, NoRoom>
-        requires sound { (Sound self.old.store) × ((Inside self.old.store self.old.roots) × (p.0 < self.old.store.count)) }
+        requires inside { (Inside self.old.store self.old.roots) × (p.0 < self.old.store.count) }
         requires has_roots { HasRoots self.old.roots.cells.now (self.old.roots.top + 1) }
         ensures { Collected self.old p self.new result }
     {
         let top = self.roots.top;
         self.frames.forget();
         self.roots.stack(top, p);
-        if !self.store.reserve(&mut self.roots, 33) {
+        if let Err(full) = self.store.reserve(&mut self.roots, 33) {
             self.roots.truncate(top);
-            return Err(NoRoom);
+            return Err(NoRoom::from(full));
         }
         let q = self.roots.place(top);
         self.roots.truncate(top);
@@ -49,7 +49,7 @@ impl Work<'_> {
 
     // Sees to it that there is space for a turn.
     pub(crate) fn with_space(&mut self, focus: Focus) -> Result<Focus, NoRoom>
-        requires { (Sound self.old.store) × ((Inside self.old.store self.old.roots) × (focus_place focus < self.old.store.count)) }
+        requires { (Inside self.old.store self.old.roots) × (focus_place focus < self.old.store.count) }
         ensures { (rs : _) (low : ℕ) → Running rs low self.old focus → SpaceOrHalted rs low self.old focus self.new result }
     {
         if !self.frames.has_space() {

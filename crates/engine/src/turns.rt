@@ -3,7 +3,7 @@ ghost use Rattle.std.specs.Prelude.{◌≡◌, ℕ, ◌+◌, ◌-◌, ◌*◌, �
 ghost use Rattle.rewriting.specs.Rules.{Done, Steps};
 ghost use Rattle.rewriting.specs.Machine.{Still};
 ghost use Rattle.rewriting.specs.Terms.{sign};
-ghost use Rattle.store.specs.Stores.{Sound, term_in, arity_in, parts_in};
+ghost use Rattle.store.specs.Stores.{term_in, arity_in, parts_in};
 ghost use Rattle.store.specs.Stacks.{root_in};
 ghost use Rattle.store.specs.Roots.{HasRoots};
 ghost use Rattle.books.specs.Books.{told};
@@ -51,7 +51,7 @@ fn apply(book: &Book, store: &mut Store, p: Place) -> Focus
 
 // The parts of the sign at a place but the first are n more roots.
 fn push_others(store: &Store, roots: &mut Roots, p: Place, n: usize)
-    requires sound { (Sound store.now) × ((p.0 < store.now.count) × (arity_in store.now p.0 ≡ n + 1)) }
+    requires parts { (p.0 < store.now.count) × (arity_in store.now p.0 ≡ n + 1) }
     requires has_roots { HasRoots roots.old.cells.now (roots.old.top + n) }
     ensures { OthersPushed store.now roots.old p.0 n roots.new }
 {
@@ -85,7 +85,7 @@ fn gather_parts(roots: &Roots, from: usize, n: usize, v: Place) -> [Place; 4]
 impl Work<'_> {
     // To the first of n + 1 parts.
     fn go_in(&mut self, p: Place, f: u32, n: usize) -> Focus
-        requires n_bound { (n ≤ 3) × ((arity_in self.old.store p.0 ≡ n + 1) × ((Sound self.old.store) × (p.0 < self.old.store.count))) }
+        requires n_bound { (n ≤ 3) × ((arity_in self.old.store p.0 ≡ n + 1) × (p.0 < self.old.store.count)) }
         requires p_value { term_in self.old.store p.0 ≡ sign f (parts_in self.old.store p.0 (n + 1)) }
         requires space_for_turn { SpaceForTurn self.old }
         ensures { (k : _) → TurnsFrom k self.old (Eval p) self.new result }

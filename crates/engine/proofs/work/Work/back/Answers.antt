@@ -8,8 +8,8 @@ set_note-requires c =
     let (low, ready) = c.requires.can_turn in
     let t = c.go_back-focus.ensures low ready in
     let w = asked_inside c.args.book.now low c.args.self.now.store c.args.self.now.roots c.args.self.now.frames c.args.v ready c.requires.count_bound.1 c.in-Some.p c.in-Some.ensures in (
-      t.holding.sound,
-      (omega (arith, w, t.holding.longer), omega (arith, ready.running.focus, t.holding.longer)),
+      omega (arith, w, t.holding.longer),
+      omega (arith, ready.running.focus, t.holding.longer),
     )
 
 pub returns-in-Some : goal.returns-in-Some
