@@ -1,3 +1,5 @@
--- Tokens and places of a text: what the contracts cite.
+-- Tokens, places and faults of a text: what the contracts cite.
 pub mod Tokens
 pub mod Places
+pub mod Faults
+pub mod Cursors

@@ -2,12 +2,12 @@
 ghost use Rattle.std.specs.Prelude.{◌≡◌, ◌+◌, ◌^◌, ◌<◌};
 ghost use Rattle.lexing.specs.Places.{past, place_of};
 
-use crate::lexer::{Kind, Token};
-use std::alloc::{AllocError, AllocFailed, Global};
+use crate::lexer::is_continuation;
+use std::alloc::{AllocError, AllocFailed};
 use std::fmt;
 
 // A mark around or between the parts of a sign.
-#[derive(Clone, Copy)]
+#[derive(Clone, Copy, Debug, PartialEq, Eq)]
 pub enum Mark {
     Open,
     Comma,
@@ -15,33 +15,48 @@ pub enum Mark {
 }
 
 // What could have stood in the place of what was found.
-#[derive(Drop)]
+#[derive(Debug, Drop, PartialEq, Eq)]
 pub enum Expected {
     // what the text says
     Words(&'static str),
     // at most so many of what the text says
-    AtMost(u32, &'static str),
+    AtMost(usize, &'static str),
     // a mark of the parts of a sign, which has so many, by its name
     Parts(Mark, u32, String),
 }
 
-#[derive(Drop)]
+#[derive(Debug, Drop, PartialEq, Eq)]
 pub enum Found {
     Word(String),
     End,
     EndOfLine,
 }
 
-// Lines and columns count from 1, columns in characters.
-#[derive(Drop)]
-pub struct Fault {
+impl Found {
+    // The same, where the text is one line of several.
+    fn in_line(self) -> Found {
+        match self {
+            Found::End => Found::EndOfLine,
+            found => found,
+        }
+    }
+}
+
+// A line and a column, from 1; columns count characters.
+#[derive(Clone, Copy, Debug, PartialEq, Eq)]
+pub struct Place {
     pub line: usize,
     pub column: usize,
+}
+
+#[derive(Debug, Drop, PartialEq, Eq)]
+pub struct Fault {
+    pub place: Place,
     pub found: Found,
     pub expected: Expected,
 }
 
-#[derive(Drop)]
+#[derive(Debug, Drop, PartialEq, Eq)]
 pub enum Error {
     Fault(Fault),
     Memory,
@@ -59,46 +74,51 @@ impl<T: Drop> From<AllocFailed<T>> for Error {
     }
 }
 
+impl fmt::Display for Mark {
+    fn fmt<W: fmt::Write>(&self, f: &mut fmt::Formatter<W>) -> fmt::Result {
+        f.write_str(match self {
+            Mark::Open => "`(` and the parts",
+            Mark::Comma => "`,` and the next part",
+            Mark::Close => "`)` after the parts",
+        })
+    }
+}
+
 impl fmt::Display for Expected {
     fn fmt<W: fmt::Write>(&self, f: &mut fmt::Formatter<W>) -> fmt::Result {
         match self {
             Expected::Words(words) => write!(f, "{words}"),
             Expected::AtMost(most, what) => write!(f, "at most {most} {what}"),
-            Expected::Parts(Mark::Open, n, sign) => write!(
-                f,
-                "`(` and the parts of `{sign}`, which has {n}"
-            ),
-            Expected::Parts(Mark::Comma, n, sign) => write!(
-                f,
-                "`,` and the next part of `{sign}`, which has {n}"
-            ),
-            Expected::Parts(Mark::Close, n, sign) => write!(
-                f,
-                "`)` after the parts of `{sign}`, which has {n}"
-            ),
+            Expected::Parts(mark, n, sign) => write!(f, "{mark} of `{sign}`, which has {n}"),
         }
+    }
+}
+
+impl fmt::Display for Found {
+    fn fmt<W: fmt::Write>(&self, f: &mut fmt::Formatter<W>) -> fmt::Result {
+        match self {
+            Found::Word(word) => write!(f, "`{word}`"),
+            Found::End => write!(f, "the end of the text"),
+            Found::EndOfLine => write!(f, "the end of the line"),
+        }
+    }
+}
+
+impl fmt::Display for Place {
+    fn fmt<W: fmt::Write>(&self, f: &mut fmt::Formatter<W>) -> fmt::Result {
+        let Place { line, column } = self;
+        write!(f, "{line}:{column}")
     }
 }
 
 impl fmt::Display for Fault {
     fn fmt<W: fmt::Write>(&self, f: &mut fmt::Formatter<W>) -> fmt::Result {
         let Fault {
-            line,
-            column,
+            place,
             found,
             expected,
         } = self;
-        match found {
-            Found::Word(word) => write!(f, "{line}:{column}: expected {expected}, found `{word}`"),
-            Found::End => write!(
-                f,
-                "{line}:{column}: expected {expected}, found the end of the text"
-            ),
-            Found::EndOfLine => write!(
-                f,
-                "{line}:{column}: expected {expected}, found the end of the line"
-            ),
-        }
+        write!(f, "{place}: expected {expected}, found {found}")
     }
 }
 
@@ -111,31 +131,21 @@ impl fmt::Display for Error {
     }
 }
 
-// A line and a column, from 1.
-#[derive(Clone, Copy)]
-pub struct Place {
-    pub line: usize,
-    pub column: usize,
-}
-
 // The place one byte further.
 fn step(place: Place, b: u8) -> Place
     requires { (place.line + 1 < 2 ^ 64) × (place.column + 1 < 2 ^ 64) }
     ensures { result ≡ past place b }
 {
-    let Place { line, column } = place;
-    if b == b'\n' {
-        Place {
-            line: line + 1,
+    match b {
+        b'\n' => Place {
+            line: place.line + 1,
             column: 1,
-        }
-    } else if b < 0x80 || b >= 0xc0 {
-        Place {
-            line,
-            column: column + 1,
-        }
-    } else {
-        place
+        },
+        _ if is_continuation(b) => place,
+        _ => Place {
+            column: place.column + 1,
+            ..place
+        },
     }
 }
 
@@ -150,53 +160,17 @@ pub fn place_after(before: &[u8]) -> Place
     place
 }
 
-// The longest word that a fault shows whole.
-const SHOWN: usize = 64;
-
-fn found_at(heap: Global, token: Token<'_>) -> Result<Found, AllocError> {
-    if token.kind == Kind::End {
-        return Ok(Found::End);
-    }
-    let word = &token.word[0..token.word.len().min(SHOWN)];
-    Ok(Found::Word(String::from_utf8_lossy(heap, word)?))
-}
-
-// The error that the token stands where something else was expected.
-pub fn fault_at(heap: Global, text: &[u8], token: Token<'_>, expected: Expected) -> Error {
-    let Place { line, column } = place_after(&text[0..token.start.min(text.len())]);
-    match found_at(heap, token) {
-        Ok(found) => Error::Fault(Fault {
-            line,
-            column,
-            found,
-            expected,
-        }),
-        Err(_) => Error::Memory,
-    }
-}
-
 // The same error, where the text was the line with this number of a longer one.
 pub fn on_line(error: Error, line: usize) -> Error {
     match error {
-        Error::Fault(
-            Fault {
-                column,
-                found,
-                expected,
-                ..
-            },
-        ) => {
-            let found = match found {
-                Found::End => Found::EndOfLine,
-                other => other,
-            };
-            Error::Fault(Fault {
+        Error::Fault(fault) => Error::Fault(Fault {
+            place: Place {
                 line,
-                column,
-                found,
-                expected,
-            })
-        }
+                ..fault.place
+            },
+            found: fault.found.in_line(),
+            ..fault
+        }),
         Error::Memory => Error::Memory,
     }
 }

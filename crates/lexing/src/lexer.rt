@@ -1,8 +1,9 @@
 // The tokens of the readable form, and where they stand in the text.
-ghost use Rattle.std.specs.Prelude.{◌≡◌, ◌≤◌, T, length};
+ghost use Rattle.std.specs.Prelude.{◌≡◌, ◌+◌, ◌^◌, ◌<◌, ◌≤◌, ◌↔◌, ◌||◌, IsTrue, T, length, nat_le, nat_lt, not};
+ghost use Rattle.lexing.specs.declared.lexer.Kind.TheVariants.{Name};
 ghost use Rattle.lexing.specs.Tokens.{nameByte, kind, Extent, TokenOf};
 
-#[derive(Clone, Copy, PartialEq, Eq)]
+#[derive(Clone, Copy, Debug, PartialEq, Eq)]
 pub enum Kind {
     Name,
     Open,
@@ -18,7 +19,7 @@ pub enum Kind {
 }
 
 // A word of the text, with its kind and the place of its first byte.
-#[derive(Clone, Copy)]
+#[derive(Clone, Copy, Debug, PartialEq, Eq)]
 pub struct Token<'a> {
     pub kind: Kind,
     pub word: &'a [u8],
@@ -27,17 +28,21 @@ pub struct Token<'a> {
 
 impl Token<'_> {
     // The place after it.
-    pub fn end(self) -> usize {
+    pub fn end(self) -> usize
+        ensures { self.entry.start + length self.entry.word.now < 2 ^ 64 → result ≡ self.entry.start + length self.entry.word.now }
+    {
         self.start.saturating_add(self.word.len())
     }
 
     pub fn is(self, kind: Kind) -> bool
-        ensures { T result → self.entry.kind ≡ kind }
+        ensures { IsTrue result ↔ (self.entry.kind ≡ kind) }
     {
         self.kind == kind
     }
 
-    pub fn is_word(self, word: &[u8]) -> bool {
+    pub fn is_word(self, word: &[u8]) -> bool
+        ensures { IsTrue result ↔ ((self.entry.kind ≡ Name) × (self.entry.word.now ≡ word.now)) }
+    {
         self.kind == Kind::Name && self.word == word
     }
 
@@ -48,19 +53,12 @@ impl Token<'_> {
 
     // The number that it writes in decimal, if that fits 32 bits.
     pub fn number(self) -> Option<u32> {
-        match std::str::from_utf8(self.word) {
-            Ok(digits) => digits.parse::<u32>().ok(),
-            Err(_) => None,
-        }
+        std::str::from_utf8(self.word).ok()?.parse().ok()
     }
 }
 
 fn is_reserved(word: &[u8]) -> bool {
-    word == b"signs".as_slice()
-        || word == b"rank".as_slice()
-        || word == b"letters".as_slice()
-        || word == b"equations".as_slice()
-        || word == b"rules".as_slice()
+    matches!(word, b"signs" | b"rank" | b"letters" | b"equations" | b"rules")
 }
 
 fn is_name_byte(b: u8) -> bool
@@ -69,13 +67,31 @@ fn is_name_byte(b: u8) -> bool
     b.is_ascii_alphanumeric() || b == b'_' || b == b'\''
 }
 
+// Whether the byte continues a character of several bytes.
+pub(crate) fn is_continuation(b: u8) -> bool
+    ensures { result ≡ not (nat_lt b 128 || nat_le 192 b) }
+{
+    matches!(b, 0x80..=0xbf)
+}
+
 // Whether the byte belongs to a token of this kind that began before it: a name goes on, and a character of several bytes is one.
 fn continues(kind: Kind, b: u8) -> bool {
     match kind {
         Kind::Name => is_name_byte(b),
-        Kind::Odd => b >= 0x80 && b < 0xc0,
+        Kind::Odd => is_continuation(b),
         _ => false,
     }
+}
+
+// The place of the first byte at or after `from` that is looked for, or of the end of the text.
+pub(crate) fn find_from<F: FnMut(&u8) -> bool>(text: &[u8], from: usize, found: F) -> usize
+    requires { (state : F) (b : _) → F.pre state b }
+    ensures within { result ≤ length text.now }
+    ensures on { from ≤ length text.now → from ≤ result }
+{
+    let from = from.min(text.len());
+    let rest = &text[from..];
+    from + rest.iter().position(found).unwrap_or(rest.len())
 }
 
 // The place of the first byte at or after `from` that stands neither in blanks nor in a comment.
@@ -83,20 +99,19 @@ fn skip_blanks(text: &[u8], from: usize) -> usize
     ensures within { result ≤ length text.now }
     ensures on { from ≤ length text.now → from ≤ result }
 {
-    let mut at = from.min(text.len());
     let mut comment = false;
-    while at < text.len() {
-        let b = text[at];
-        if b == b'#' {
-            comment = true;
-        } else if b == b'\n' {
-            comment = false;
-        } else if !comment && !b.is_ascii_whitespace() {
-            break;
-        }
-        at += 1;
-    }
-    at
+    find_from(
+        text,
+        from,
+        |b| {
+            match b {
+                b'#' => comment = true,
+                b'\n' => comment = false,
+                _ => return !comment && !b.is_ascii_whitespace(),
+            }
+            false
+        },
+    )
 }
 
 // The place after the token of this kind that goes on at `from`.
@@ -104,11 +119,7 @@ fn end_of(text: &[u8], from: usize, kind: Kind) -> usize
     requires { from ≤ length text.now }
     ensures { (from ≤ result) × (result ≤ length text.now) }
 {
-    let mut end = from;
-    while end < text.len() && continues(kind, text[end]) {
-        end += 1;
-    }
-    end
+    find_from(text, from, |b| !continues(kind, *b))
 }
 
 // The kind of a token, by its first byte and the next.

@@ -1,6 +1,7 @@
 // Texts: their tokens and the places of these, faults, and rows of decimal words.
 #![tactic(auto)]
 
+pub mod cursor;
 pub mod fault;
 pub mod lexer;
 pub mod pairs;

@@ -1,15 +1,17 @@
 // Pairs of terms, one a line, as rows of decimal words with `|` between them.
 ghost use Rattle.std.specs.Prelude.{◌+◌, ◌≤◌, vec_len};
 
-use crate::fault::{Error, Expected, fault_at};
-use crate::lexer::{Kind, Token, token_from};
+use crate::cursor::Cursor;
+use crate::fault::{Error, Expected};
+use crate::lexer::Kind;
 use std::alloc::{AllocError, Global};
 
 // A row with so many words, and one more for the book, is longer than the most work words suffice for. No more of it is read.
 pub const MOST_TERM: usize = 13_056;
 
 // What a line holds.
-#[derive(Clone, Copy)]
+// Stays beside the pair that it is read into: one pair's space serves all lines, and a loop over lines can't hand on what it lent in a turn.
+#[derive(Clone, Copy, Debug, PartialEq, Eq)]
 pub enum Line {
     // nothing but blanks and a comment
     Blank,
@@ -35,59 +37,33 @@ impl Pair {
     }
 }
 
-// Adds the words that come next to the row, at most `most`, and gives the token after them.
-fn add_words<'a>(
-    line: &'a [u8],
-    from: usize,
-    most: usize,
-    row: &mut Vec<u32>,
-) -> Result<Token<'a>, Error>
-    ensures { vec_len row.new ≤ vec_len row.old + most }
-{
-    let mut token = token_from(line, from);
-    for _i in 0..most {
-        let Some(n) = token.number() else {
-            return Ok(token);
-        };
-        row.push(n)?;
-        token = token_from(line, token.end());
-    }
-    Ok(token)
-}
-
 // Reads the two rows of a line. Any words will do.
 pub fn read_pair(heap: Global, line: &[u8], pair: &mut Pair) -> Result<Line, Error>
-    ensures one { vec_len pair.new.one ≤ 13056 }
-    ensures other { vec_len pair.new.other ≤ 13056 }
+    ensures one { vec_len pair.new.one ≤ MOST_TERM }
+    ensures other { vec_len pair.new.other ≤ MOST_TERM }
 {
     pair.one.clear();
     pair.other.clear();
-    if token_from(line, 0).is(Kind::End) {
+    let mut cursor = Cursor::new(heap, line, 0);
+    if cursor.token.is(Kind::End) {
         return Ok(Line::Blank);
     }
-    let bar = add_words(line, 0, MOST_TERM, &mut pair.one)?;
+    cursor.add_numbers(&mut pair.one, MOST_TERM)?;
     if pair.one.len() == MOST_TERM {
         return Ok(Line::Long);
     }
-    if bar.word != b"|".as_slice() {
-        return Err(fault_at(
-            heap,
-            line,
-            bar,
-            Expected::Words("a number of at most 32 bits, or `|`"),
-        ));
+    if cursor.token.word != b"|".as_slice() {
+        return Err(cursor.fault(Expected::Words("a number of at most 32 bits, or `|`")));
     }
-    let end = add_words(line, bar.end(), MOST_TERM, &mut pair.other)?;
+    cursor.advance();
+    cursor.add_numbers(&mut pair.other, MOST_TERM)?;
     if pair.other.len() == MOST_TERM {
         return Ok(Line::Long);
     }
-    if !end.is(Kind::End) {
-        return Err(fault_at(
-            heap,
-            line,
-            end,
-            Expected::Words("a number of at most 32 bits, or the end of the line"),
-        ));
+    if !cursor.token.is(Kind::End) {
+        return Err(cursor.fault(Expected::Words(
+            "a number of at most 32 bits, or the end of the line",
+        )));
     }
     Ok(Line::Pair)
 }

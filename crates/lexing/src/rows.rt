@@ -1,8 +1,9 @@
 // Rows as text: the decimal words of a book on one line, and those of its ways on the next.
 ghost use Rattle.std.specs.Prelude.{◌≤◌, length, IfOk, vec_len};
 
-use crate::fault::{Error, Expected, fault_at};
-use crate::lexer::{Kind, token_from};
+use crate::cursor::Cursor;
+use crate::fault::{Error, Expected};
+use crate::lexer::{Kind, find_from};
 use std::alloc::Global;
 
 // How many words the longest row of a book has: 67, and 64 for each side. The ways' row may be as long.
@@ -19,57 +20,38 @@ pub struct Rows {
 pub fn line_end(text: &[u8], from: usize) -> usize
     ensures { result ≤ length text.now }
 {
-    let mut end = from.min(text.len());
-    while end < text.len() && text[end] != b'\n' {
-        end += 1;
-    }
-    end
+    find_from(text, from, |b| *b == b'\n')
 }
 
 // The words on the line that goes on at `from`.
 fn row(heap: Global, text: &[u8], from: usize) -> Result<Vec<u32>, Error>
-    ensures { IfOk result (λ v. vec_len v ≤ 16451) }
+    ensures { IfOk result (λ v. vec_len v ≤ MOST_WORDS) }
 {
-    let end = line_end(text, from);
+    let line = &text[..line_end(text, from)];
     let mut words = Vec::with_capacity(heap, MOST_WORDS)?;
-    let mut token = token_from(text, from);
-    for _i in 0..MOST_WORDS {
-        if token.start >= end {
-            return Ok(words);
-        }
-        let Some(n) = token.number() else {
-            return Err(fault_at(
-                heap,
-                text,
-                token,
-                Expected::Words("a number of at most 32 bits"),
-            ));
-        };
-        words.push(n)?;
-        token = token_from(text, token.end());
+    let mut cursor = Cursor::new(heap, line, from);
+    cursor.add_numbers(&mut words, MOST_WORDS)?;
+    if cursor.token.is(Kind::End) {
+        return Ok(words);
     }
-    if token.start < end {
-        return Err(fault_at(heap, text, token, Expected::AtMost(16_451, "words a row")));
-    }
-    Ok(words)
+    Err(cursor.fault(if words.len() < MOST_WORDS {
+        Expected::Words("a number of at most 32 bits")
+    } else {
+        Expected::AtMost(MOST_WORDS, "words a row")
+    }))
 }
 
 // Reads the two rows. Any words will do; the second line may be empty or absent, and after it nothing follows.
 pub fn read_rows(heap: Global, text: &str) -> Result<Rows, Error>
-    ensures { IfOk result (λ k. (vec_len k.book ≤ 16451) × (vec_len k.ways ≤ 16451)) }
+    ensures { IfOk result (λ k. (vec_len k.book ≤ MOST_WORDS) × (vec_len k.ways ≤ MOST_WORDS)) }
 {
     let bytes = text.as_bytes();
     let book = row(heap, bytes, 0)?;
     let second = line_end(bytes, 0).saturating_add(1);
     let ways = row(heap, bytes, second)?;
-    let after = token_from(bytes, line_end(bytes, second));
-    if !after.is(Kind::End) {
-        return Err(fault_at(
-            heap,
-            bytes,
-            after,
-            Expected::Words("the end of the text after two rows"),
-        ));
+    let after = Cursor::new(heap, bytes, line_end(bytes, second));
+    if !after.token.is(Kind::End) {
+        return Err(after.fault(Expected::Words("the end of the text after two rows")));
     }
     Ok(Rows { book, ways })
 }

@@ -1,4 +1,2 @@
 -- Lemmas of the readable form.
 pub mod Heads
-pub mod Names
-pub mod Signs

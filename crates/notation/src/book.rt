@@ -3,6 +3,7 @@ ghost use Rattle.std.specs.Prelude.{◌≡◌, ◌++◌, IfSome, IfOk, OnOk};
 ghost use Rattle.notation.specs.Rows.{BookWays};
 ghost use Rattle.notation.specs.Books.{parts_in, ranks_in, row_with, Whole};
 
+use crate::declarations::Names;
 use crate::parser::Parser;
 use crate::sections::Sides;
 use crate::signature::{Sign, Signature};
@@ -20,32 +21,14 @@ pub struct Book {
     pub layout: Layout,
 }
 
-fn add_parts(words: &mut Vec<u32>, signs: &[Sign]) -> Result<(), AllocError>
-    ensures { OnOk result (words.new.items ≡ words.old.items ++ parts_in signs.now) }
-{
-    for sign in signs {
-        words.push(sign.parts)?;
-    }
-    Ok(())
-}
-
-fn add_ranks(words: &mut Vec<u32>, signs: &[Sign]) -> Result<(), AllocError>
-    ensures { OnOk result (words.new.items ≡ words.old.items ++ ranks_in signs.now) }
-{
-    for sign in signs {
-        words.push(sign.rank)?;
-    }
-    Ok(())
-}
-
 // The row of a book with these signs and these sides.
 fn book_row(heap: Global, signs: &[Sign], sides: &Sides) -> Result<Vec<u32>, AllocError>
     ensures { IfOk result (λ v. v.items ≡ row_with signs.now sides.now) }
 {
     let mut words = Vec::with_capacity(heap, MOST_WORDS)?;
     words.push(sides.signs)?;
-    add_parts(&mut words, signs)?;
-    add_ranks(&mut words, signs)?;
+    words.extend(signs.iter().map(|sign| sign.parts))?;
+    words.extend(signs.iter().map(|sign| sign.rank))?;
     words.push(sides.equations)?;
     words.push(sides.rules)?;
     words.extend_from_slice(sides.row.as_slice())?;
@@ -56,9 +39,7 @@ fn book_row(heap: Global, signs: &[Sign], sides: &Sides) -> Result<Vec<u32>, All
 fn read_both(words: &[u32], ways: &[u32]) -> Option<Layout>
     ensures { IfSome result (BookWays words.now ways.now) }
 {
-    let Some(layout) = read_book(words) else {
-        return None;
-    };
+    let layout = read_book(words)?;
     let parts = &words[1..1 + layout.signs()];
     if are_ways(parts, layout.rules(), ways) {
         Some(layout)
@@ -72,20 +53,24 @@ fn read_both(words: &[u32], ways: &[u32]) -> Option<Layout>
 pub fn parse(heap: Global, text: &str) -> Result<Book, Error>
     ensures { IfOk result Whole }
 {
-    let mut parser = Parser::new(heap, text.as_bytes());
-    let mut signature = Signature::new(heap);
-    let sides = parser.sections(&mut signature)?;
+    let mut names = Names::new(heap, text.as_bytes());
+    let signs = names.take_signs()?;
+    names.take_letters()?;
+    let Names { cursor, signature, .. } = names;
+    let mut parser = Parser {
+        cursor,
+        signature: &signature,
+    };
+    let sides = parser.sections(signs)?;
     let words = book_row(heap, signature.signs.as_slice(), &sides)?;
+    let end = parser.cursor;
     match read_both(words.as_slice(), sides.ways.as_slice()) {
-        Some(layout) if layout.signs() == signature.signs.len() => {
-            let Sides { ways, .. } = sides;
-            Ok(Book {
-                signature,
-                words,
-                ways,
-                layout,
-            })
-        }
-        _ => Err(parser.fault(Expected::Words("a book"))),
+        Some(layout) if layout.signs() == signature.signs.len() => Ok(Book {
+            signature,
+            words,
+            ways: sides.ways,
+            layout,
+        }),
+        _ => Err(end.fault(Expected::Words("a book"))),
     }
 }

@@ -2,6 +2,7 @@
 #![tactic(auto)]
 
 mod book;
+mod declarations;
 mod pairs;
 mod parser;
 mod sections;

@@ -4,34 +4,34 @@ ghost use Rattle.std.specs.Prelude.{◌≤◌, vec_len};
 use crate::parser::Parser;
 use crate::signature::Signature;
 use crate::terms::Limits;
+use lexing::cursor::Cursor;
 use lexing::fault::{Error, Expected};
 use lexing::lexer::Kind;
 use lexing::pairs::{Line, MOST_TERM, Pair};
 use std::alloc::Global;
 
-// A term of a pair. One with so many letters and signs has a row of 13056 words.
+// A letter or a sign has two words.
+const MOST_SYMBOLS: usize = MOST_TERM / 2;
+
+// A term of a pair.
 const TERM: Limits = Limits {
-    symbols: 6_528,
+    symbols: MOST_SYMBOLS,
     letters: 16,
-    told: 6_528,
+    told: MOST_SYMBOLS,
     of: "letters and signs a term",
 };
 
 impl Parser<'_> {
     // Takes two terms with `=` between them, and adds their rows.
-    fn pair(&mut self, signature: &Signature, pair: &mut Pair) -> Result<(), Error>
+    fn pair(&mut self, pair: &mut Pair) -> Result<(), Error>
         requires { (vec_len pair.old.one ≤ 0) × (vec_len pair.old.other ≤ 0) }
-        ensures one { vec_len pair.new.one ≤ 13056 }
-        ensures other { vec_len pair.new.other ≤ 13056 }
+        ensures one { vec_len pair.new.one ≤ MOST_TERM }
+        ensures other { vec_len pair.new.other ≤ MOST_TERM }
     {
-        self.term(signature, &mut pair.one, TERM)?;
-        self.expect(Kind::Equals, Expected::Words("`=` and the other term"))?;
-        self.term(signature, &mut pair.other, TERM)?;
-        if self.token.is(Kind::End) {
-            Ok(())
-        } else {
-            Err(self.fault(Expected::Words("the end of the line")))
-        }
+        self.term(&mut pair.one, TERM)?;
+        self.cursor.expect(Kind::Equals, Expected::Words("`=` and the other term"))?;
+        self.term(&mut pair.other, TERM)?;
+        self.cursor.expect(Kind::End, Expected::Words("the end of the line"))
     }
 }
 
@@ -42,16 +42,16 @@ pub fn parse_pair(
     line: &[u8],
     pair: &mut Pair,
 ) -> Result<Line, Error>
-    ensures one { vec_len pair.new.one ≤ 13056 }
-    ensures other { vec_len pair.new.other ≤ 13056 }
+    ensures one { vec_len pair.new.one ≤ MOST_TERM }
+    ensures other { vec_len pair.new.other ≤ MOST_TERM }
 {
     pair.one.clear();
     pair.other.clear();
-    let mut parser = Parser::new(heap, line);
-    if parser.token.is(Kind::End) {
+    let cursor = Cursor::new(heap, line, 0);
+    if cursor.token.is(Kind::End) {
         return Ok(Line::Blank);
     }
-    match parser.pair(signature, pair) {
+    match (Parser { cursor, signature }).pair(pair) {
         Ok(()) => Ok(Line::Pair),
         Err(_) if pair.one.len() == MOST_TERM || pair.other.len() == MOST_TERM => Ok(Line::Long),
         Err(e) => Err(e),

@@ -6,7 +6,7 @@ use books::words::Symbol;
 use std::alloc::Global;
 
 // A sign with how many parts it has, and its rank.
-#[derive(Drop)]
+#[derive(Debug, Drop, PartialEq, Eq)]
 pub struct Sign {
     pub name: String,
     pub parts: u32,
@@ -14,7 +14,8 @@ pub struct Sign {
 }
 
 // A sign's number is its place among the signs, and a letter's its place among the letters.
-#[derive(Drop)]
+// Stays two lists that are searched: names have numbers by their places, and a map from names would hold each name a second time.
+#[derive(Debug, Drop, PartialEq, Eq)]
 pub struct Signature {
     pub signs: Vec<Sign>,
     pub letters: Vec<String>,
@@ -31,55 +32,34 @@ impl Signature {
     fn sign_named(&self, name: &[u8]) -> Option<u32>
         ensures { IfSome result (SignNamed self.now.signs name.now) }
     {
-        for (i, sign) in self.signs.iter().enumerate() {
-            if sign.name.as_bytes() == name {
-                return u32::try_from(i).ok();
-            }
-        }
-        None
+        let place = self.signs.iter().position(|sign| sign.name.as_bytes() == name)?;
+        u32::try_from(place).ok()
     }
 
     fn letter_named(&self, name: &[u8]) -> Option<u32>
         ensures { IfSome result (LetterNamed self.now.letters name.now) }
     {
-        for (i, letter) in self.letters.iter().enumerate() {
-            if letter.as_bytes() == name {
-                return u32::try_from(i).ok();
-            }
-        }
-        None
+        let place = self.letters.iter().position(|letter| letter.as_bytes() == name)?;
+        u32::try_from(place).ok()
     }
 
     // What the name stands for, if anything.
     pub fn named(&self, name: &[u8]) -> Option<Symbol>
         ensures { IfSome result (Named self.now name.now) }
     {
-        if let Some(i) = self.sign_named(name) {
-            return Some(Symbol::Sign(i));
-        }
-        match self.letter_named(name) {
-            Some(i) => Some(Symbol::Letter(i)),
-            None => None,
+        match self.sign_named(name) {
+            Some(i) => Some(Symbol::Sign(i)),
+            None => self.letter_named(name).map(Symbol::Letter),
         }
     }
 
     // Whether a sign has this rank.
     pub fn has_rank(&self, rank: u32) -> bool {
-        for sign in self.signs.iter() {
-            if sign.rank == rank {
-                return true;
-            }
-        }
-        false
+        self.signs.iter().any(|sign| sign.rank == rank)
     }
 
     // Whether the ranks are 0, 1, 2 and so on.
     pub fn ranks_rise(&self) -> bool {
-        for (sign, rank) in self.signs.iter().zip(0..u32::MAX) {
-            if sign.rank != rank {
-                return false;
-            }
-        }
-        true
+        self.signs.iter().zip(0..u32::MAX).all(|(sign, rank)| sign.rank == rank)
     }
 }

@@ -9,6 +9,7 @@ mod tests {
     use notation::{Book, parse, parse_pair};
     use printing::{book_text, equation_text, rule_text};
     use std::alloc::{AllocError, Global};
+    use std::fmt::Write;
     use std::test::Fail;
 
     const SUMS: &str = "# Sums of numbers.
@@ -156,16 +157,13 @@ rules
     }
 
     fn read(heap: Global, text: &str) -> Result<Book, Fail> {
-        match parse(heap, text) {
-            Ok(book) => Ok(book),
-            Err(e) => Err(Fail::new(e)),
-        }
+        parse(heap, text).map_err(|e| Fail::new(e))
     }
 
     #[test]
     fn faults(rt: HostRuntime) -> Result<(), Fail> {
         let heap = rt.alloc();
-        for (text, fault) in FAULTS.iter() {
+        for (text, fault) in &FAULTS {
             assert_eq!(rt; told(heap, parse(heap, text))?.as_str(), *fault);
         }
         Ok(())
@@ -267,7 +265,7 @@ rules
         for i in 0..times {
             text.push_str(long.part)?;
             if long.numbered {
-                text.push_str(i.to_string(heap)?.as_str())?;
+                write!(text, "{i}")?;
             }
         }
         text.push_str(long.tail)?;
@@ -277,7 +275,7 @@ rules
     #[test]
     fn limits(rt: HostRuntime) -> Result<(), Fail> {
         let heap = rt.alloc();
-        for long in LIMITS.iter() {
+        for long in &LIMITS {
             let within = long_text(heap, long, long.most)?;
             let beyond = long_text(heap, long, long.most.saturating_add(1))?;
             assert!(rt;
@@ -317,7 +315,7 @@ rules
     #[test]
     fn rows(rt: HostRuntime) -> Result<(), Fail> {
         let heap = rt.alloc();
-        for (text, wanted) in ROWS.iter() {
+        for (text, wanted) in &ROWS {
             let found = match read_rows(heap, text) {
                 Ok(rows) => {
                     let book = rows.book.len();
@@ -383,14 +381,12 @@ rules
             Ok(Line::Long) => String::from_str(heap, "long"),
             Ok(Line::Pair) => {
                 let mut text = String::new(heap);
-                for n in pair.one.as_slice() {
-                    text.push_str(n.to_string(heap)?.as_str())?;
-                    text.push(' ')?;
+                for n in &pair.one {
+                    write!(text, "{n} ")?;
                 }
                 text.push('|')?;
-                for n in pair.other.as_slice() {
-                    text.push(' ')?;
-                    text.push_str(n.to_string(heap)?.as_str())?;
+                for n in &pair.other {
+                    write!(text, " {n}")?;
                 }
                 Ok(text)
             }
@@ -403,11 +399,11 @@ rules
         let heap = rt.alloc();
         let book = read(heap, SUMS)?;
         let mut pair = Pair::new(heap)?;
-        for (line, wanted) in PAIRS.iter() {
+        for (line, wanted) in &PAIRS {
             let found = parse_pair(heap, &book.signature, line.as_bytes(), &mut pair);
             assert_eq!(rt; shown(heap, found, &pair)?.as_str(), *wanted);
         }
-        for (line, wanted) in PAIR_ROWS.iter() {
+        for (line, wanted) in &PAIR_ROWS {
             let found = read_pair(heap, line.as_bytes(), &mut pair);
             assert_eq!(rt; shown(heap, found, &pair)?.as_str(), *wanted);
         }

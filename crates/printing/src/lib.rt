@@ -11,51 +11,41 @@ mod printer;
 
 // The book, with its ways.
 pub fn book_text(heap: Global, book: &Book) -> Result<String, AllocError> {
-    let mut printer = Printer {
-        heap,
-        signature: &book.signature,
-        out: String::new(heap),
-    };
-    printer.add_book(book.words.as_slice(), book.layout, book.ways.as_slice())?;
-    let Printer { out, .. } = printer;
-    Ok(out)
+    let mut printer = Printer::new(heap, book);
+    printer.add_book()?;
+    Ok(printer.out)
 }
 
-// The equation or rule with this number, the rules counted after the equations; nothing where there is none.
-fn pair_text(heap: Global, book: &Book, number: usize, mark: &str) -> Result<String, AllocError> {
-    let mut printer = Printer {
-        heap,
-        signature: &book.signature,
-        out: String::new(heap),
-    };
-    if number < 128 {
-        printer.add_sides(book.words.as_slice(), book.layout.start(2 * number), mark)?;
+// Of so many equations or rules, counted with all from `first`, the one with this number; nothing where there is none.
+fn pair_text(
+    heap: Global,
+    book: &Book,
+    first: usize,
+    count: usize,
+    number: usize,
+    mark: &str,
+) -> Result<String, AllocError>
+    ensures { count ≤ number → IfOk result (λ t. string_bytes t ≡ []) }
+{
+    let mut printer = Printer::new(heap, book);
+    if number < count {
+        printer.add_sides(first.saturating_add(number), mark)?;
     }
-    let Printer { out, .. } = printer;
-    Ok(out)
+    Ok(printer.out)
 }
 
 // The equation with this number, from 0; nothing where there is none.
 pub fn equation_text(heap: Global, book: &Book, number: usize) -> Result<String, AllocError>
     ensures { book.now.layout.equations ≤ number → IfOk result (λ t. string_bytes t ≡ []) }
 {
-    if number >= book.layout.equations() {
-        return Ok(String::new(heap));
-    }
-    pair_text(heap, book, number, " = ")
+    let count = book.layout.equations();
+    pair_text(heap, book, 0, count, number, " = ")
 }
 
 // The rule with this number, from 0; nothing where there is none.
 pub fn rule_text(heap: Global, book: &Book, number: usize) -> Result<String, AllocError>
     ensures { book.now.layout.rules ≤ number → IfOk result (λ t. string_bytes t ≡ []) }
 {
-    if number >= book.layout.rules() {
-        return Ok(String::new(heap));
-    }
-    pair_text(
-        heap,
-        book,
-        number.saturating_add(book.layout.equations()),
-        " -> ",
-    )
+    let count = book.layout.rules();
+    pair_text(heap, book, book.layout.equations(), count, number, " -> ")
 }

@@ -1,51 +1,45 @@
 // Terms, equations, rules and books in the readable form.
-ghost use Rattle.std.specs.Prelude.{◌≤◌, IfOk};
+ghost use Rattle.std.specs.Prelude.{◌≡◌, ◌≤◌, [], IfOk, string_bytes};
 
-use books::Layout;
 use books::words::{Symbol, symbol_at};
-use notation::signature::Signature;
+use notation::Book;
 use std::alloc::{AllocError, Global};
+use std::fmt::Write;
 
-// A text that grows.
+// A book, and what is written of it so far.
 #[derive(Drop)]
 pub(crate) struct Printer<'a> {
-    pub(crate) heap: Global,
-    pub(crate) signature: &'a Signature,
+    heap: Global,
+    book: &'a Book,
     pub(crate) out: String,
 }
 
-impl Printer<'_> {
-    pub(crate) fn add(&mut self, words: &str) -> Result<(), AllocError> {
-        self.out.push_str(words)
-    }
-
-    pub(crate) fn add_number(&mut self, n: u32) -> Result<(), AllocError> {
-        let digits = n.to_string(self.heap)?;
-        self.out.push_str(digits.as_str())
+impl<'a> Printer<'a> {
+    pub(crate) fn new(heap: Global, book: &'a Book) -> Printer<'a>
+        ensures { string_bytes result.out ≡ [] }
+    {
+        Printer {
+            heap,
+            book,
+            out: String::new(heap),
+        }
     }
 
     // Adds the name of a letter or a sign, and tells how many parts follow. What has no name is written by its number, after `?`.
     fn add_symbol(&mut self, symbol: Symbol) -> Result<u32, AllocError> {
-        let signature = self.signature;
-        let number = match symbol {
-            Symbol::Letter(x) => {
-                if let Some(name) = signature.letters.get(x as usize) {
-                    self.add(name.as_str())?;
-                    return Ok(0);
-                }
-                x
-            }
-            Symbol::Sign(f) => {
-                if let Some(sign) = signature.signs.get(f as usize) {
-                    self.add(sign.name.as_str())?;
-                    return Ok(sign.parts);
-                }
-                f
-            }
+        let signature = &self.book.signature;
+        let (name, number, parts) = match symbol {
+            Symbol::Letter(x) => (signature.letters.get(x as usize), x, 0),
+            Symbol::Sign(f) => match signature.signs.get(f as usize) {
+                Some(sign) => (Some(&sign.name), f, sign.parts),
+                None => (None, f, 0),
+            },
         };
-        self.add("?")?;
-        self.add_number(number)?;
-        Ok(0)
+        match name {
+            Some(name) => write!(self.out, "{name}")?,
+            None => write!(self.out, "?{number}")?,
+        }
+        Ok(parts)
     }
 
     // After a whole term: closes the signs that end with it; whether another part comes then.
@@ -62,7 +56,7 @@ impl Printer<'_> {
     }
 
     // Adds the term that stands at a place of a row, and tells the place after it.
-    pub(crate) fn add_term(&mut self, words: &[u32], at: usize) -> Result<usize, AllocError>
+    fn add_term(&mut self, words: &[u32], at: usize) -> Result<usize, AllocError>
         ensures { IfOk result (λ end. at ≤ end) }
     {
         let mut open = Vec::new(self.heap);
@@ -80,101 +74,74 @@ impl Printer<'_> {
         Ok(end)
     }
 
-    // Adds the two sides that stand at a place of a row, with a mark between them, and tells the place after them.
-    pub(crate) fn add_sides(
-        &mut self,
-        words: &[u32],
-        at: usize,
-        mark: &str,
-    ) -> Result<usize, AllocError>
-        ensures { IfOk result (λ end. at ≤ end) }
-    {
-        let middle = self.add_term(words, at)?;
-        self.add(mark)?;
-        self.add_term(words, middle)
+    // Adds the two sides of the equation or rule with this number, the rules counted after the equations, with a mark between them.
+    pub(crate) fn add_sides(&mut self, number: usize, mark: &str) -> Result<(), AllocError> {
+        let words = self.book.words.as_slice();
+        let middle = self.add_term(words, self.book.layout.start(number.saturating_mul(2)))?;
+        self.out.push_str(mark)?;
+        self.add_term(words, middle)?;
+        Ok(())
     }
 
     // Adds the sections of signs and letters; ranks only where these do not rise in order from 0.
     fn add_names(&mut self) -> Result<(), AllocError> {
-        let signature = self.signature;
+        let signature = &self.book.signature;
         let ranked = !signature.ranks_rise();
-        self.add("signs")?;
-        for sign in signature.signs.iter() {
-            self.add(" ")?;
-            self.add(sign.name.as_str())?;
-            self.add("/")?;
-            self.add_number(sign.parts)?;
+        write!(self.out, "signs")?;
+        for sign in &signature.signs {
+            write!(self.out, " {}/{}", sign.name, sign.parts)?;
             if ranked {
-                self.add(" rank ")?;
-                self.add_number(sign.rank)?;
+                write!(self.out, " rank {}", sign.rank)?;
             }
         }
-        self.add("\nletters")?;
-        for letter in signature.letters.iter() {
-            self.add(" ")?;
-            self.add(letter.as_str())?;
+        write!(self.out, "\nletters")?;
+        for letter in &signature.letters {
+            write!(self.out, " {letter}")?;
         }
         Ok(())
     }
 
-    // Adds the equations, whose sides start at a place of the row, and tells the place after them.
-    fn add_equations(
-        &mut self,
-        words: &[u32],
-        at: usize,
-        count: usize,
-    ) -> Result<usize, AllocError> {
-        let mut place = at;
-        self.add("\nequations")?;
-        for _i in 0..count {
-            self.add("\n  ")?;
-            place = self.add_sides(words, place, " = ")?;
+    fn add_equations(&mut self) -> Result<(), AllocError> {
+        write!(self.out, "\nequations")?;
+        for number in 0..self.book.layout.equations() {
+            write!(self.out, "\n  ")?;
+            self.add_sides(number, " = ")?;
         }
-        Ok(place)
+        Ok(())
     }
 
     // Adds the way that stands at a place of the ways' row, and tells the place after it.
-    fn add_way(&mut self, ways: &[u32], at: usize) -> Result<usize, AllocError> {
+    fn add_way(&mut self, at: usize) -> Result<usize, AllocError> {
+        let ways = self.book.ways.as_slice();
         let Some(count) = ways.get(at) else {
             return Ok(at);
         };
         let mut place = at + 1;
-        for _i in 0..*count {
-            self.add("\n    = ")?;
+        for _ in 0..*count {
+            write!(self.out, "\n    = ")?;
             place = self.add_term(ways, place)?;
         }
         Ok(place)
     }
 
-    // Adds the rules, whose sides start at a place of the row, each with its way.
-    fn add_rules(
-        &mut self,
-        words: &[u32],
-        at: usize,
-        count: usize,
-        ways: &[u32],
-    ) -> Result<(), AllocError> {
-        let mut place = at;
+    // Adds the rules, each with its way.
+    fn add_rules(&mut self) -> Result<(), AllocError> {
+        let first = self.book.layout.equations();
         let mut way = 0;
-        self.add("\nrules")?;
-        for _i in 0..count {
-            self.add("\n  ")?;
-            place = self.add_sides(words, place, " -> ")?;
-            way = self.add_way(ways, way)?;
+        write!(self.out, "\nrules")?;
+        for number in 0..self.book.layout.rules() {
+            write!(self.out, "\n  ")?;
+            self.add_sides(first.saturating_add(number), " -> ")?;
+            way = self.add_way(way)?;
         }
         Ok(())
     }
 
-    // Adds all sections of a book.
-    pub(crate) fn add_book(
-        &mut self,
-        words: &[u32],
-        layout: Layout,
-        ways: &[u32],
-    ) -> Result<(), AllocError> {
+    // Adds all sections of the book.
+    pub(crate) fn add_book(&mut self) -> Result<(), AllocError> {
         self.add_names()?;
-        let place = self.add_equations(words, layout.start(0), layout.equations())?;
-        self.add_rules(words, place, layout.rules(), ways)?;
-        self.add("\n")
+        self.add_equations()?;
+        self.add_rules()?;
+        self.out.push('\n')
     }
 }

@@ -4,11 +4,11 @@ use Rattle.notation.proofs.book.read_both.Goals as goal
 
 pub slice_bounds-parts-end : goal.slice_bounds-parts-end
 slice_bounds-parts-end c =
-    let (r, p) = c.in-Some.ensures in
-    parts_within _ _ c.in-Some.layout r p c.signs.result c.signs.ensures
+    let (r, p) = c.in_ok-layout.ensures in
+    parts_within _ _ c.in_ok-layout.layout r p c.signs.result c.signs.ensures
 
 pub returns-then-are_ways : goal.returns-then-are_ways
 returns-then-are_ways c =
-    let (r, p) = c.in-Some.ensures in
-    ways_here _ _ c.in-Some.layout r p c.signs.result c.signs.ensures c.args.ways.now c.rules.result
+    let (r, p) = c.in_ok-layout.ensures in
+    ways_here _ _ c.in_ok-layout.layout r p c.signs.result c.signs.ensures c.args.ways.now c.rules.result
     c.rules.ensures (c.are_ways.ensures.holds c.if-are_ways.true)

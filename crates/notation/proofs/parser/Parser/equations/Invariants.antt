@@ -1,6 +1,9 @@
--- each equation has at most 128 words
-use Rattle.std.proofs.Common.{◌+◌, ◌*◌, ◌≤◌, vec_len}
+-- at most 64 equations, each of at most 128 words
+use Rattle.std.proofs.Common.{◌+◌, ◌-◌, ◌*◌, ◌≤◌, vec_len}
 use Rattle.notation.proofs.parser.Parser.equations.Given as goal
 
-abbrev pub invariant-loop-count : goal.invariant-loop-count
-invariant-loop-count l = vec_len l.row ≤ vec_len l.initial.row + 128 * l.count
+abbrev pub invariant-loop-self : goal.invariant-loop-self
+invariant-loop-self l = (l.count ≤ 64) × (vec_len l.row ≤ vec_len l.initial.row + 128 * l.count)
+
+abbrev pub decreases-loop-self : goal.decreases-loop-self
+decreases-loop-self l = 64 - l.count

@@ -2,5 +2,5 @@
 use Rattle.std.proofs.Common.{◌+◌, ◌*◌, ◌≤◌, vec_len}
 use Rattle.notation.proofs.parser.Parser.term.Given as goal
 
-abbrev pub invariant-loop-i : goal.invariant-loop-i
-invariant-loop-i l = vec_len l.row ≤ vec_len l.initial.row + 2 * l._i
+abbrev pub invariant-loop-turn : goal.invariant-loop-turn
+invariant-loop-turn l = vec_len l.row ≤ vec_len l.initial.row + 2 * l._turn
