@@ -1,14 +1,14 @@
 -- A rule's sides in the words that are compared.
 use Rattle.std.proofs.Common.{◌≡◌, ℕ, ◌+◌, ◌-◌, ◌*◌, ◌/◌, ◌<◌, ◌≤◌, Bool, List, length, take, drop, sym, ap, ◌∙◌, subst, ap₂, arith}
-use Rattle.std.proofs.Common.{length-drop}
+use Rattle.std.proofs.Common.{append-nil, []}
 use mathlib.Core.Option.{some}
-use Rattle.std.proofs.lemmas.List.{drop-drop, take_rest}
 use Rattle.rewriting.specs.Terms.{Term, Ok}
 use Rattle.rewriting.specs.Rules.{Eq}
 use Rattle.rewriting.specs.Order.{rank, Greater, AllDown}
 use Rattle.rewriting.specs.Answers.{Tells}
 use Rattle.books.specs.Reading.{signs_of}
-use Rattle.books.specs.Books.{told, SoundBook, rule_in, RuleAt}
+use Rattle.books.specs.Rows.{row}
+use Rattle.books.specs.Books.{told, SoundBook, rule_in}
 use Rattle.books.specs.declared.row.Book.{Book}
 use Rattle.books.proofs.Heads.{head_of}
 use Rattle.books.proofs.Elements.{nth_below}
@@ -42,39 +42,18 @@ module _ (k : Book) (sound : SoundBook k) where
       let q : rule_in k i ≡ r = cc in
       subst (λ (x : Eq). Greater (rank (told k).ranks) x.left x.right) q (down i (omega (arith, sound.laid.rules)))
 
-  module _ (i : ℕ) (low : i < length (told k).rules) (a m z : ℕ) (at : RuleAt k i a m z) where
-    pub right_within : 2 * ((m - a) / 2) ≤ length (take (length k.words.now - a) (drop a k.words.now))
-    right_within =
-        omega (arith, ap length (take_rest k.words.now a), length-drop a k.words.now, at.left.long, at.left.within)
+  module _ (i : ℕ) (low : i < length (told k).rules) (p : Comparison) (n : ℕ) (en : n ≡ k.layout.signs)
+      (left : p.left.now ≡ row (rule_in k i).left) (right : p.right.now ≡ row (rule_in k i).right) (ep : p.parts.now ≡ (told k).parts)
+      (er : p.ranks.now ≡ take (1 + 2 * n - (1 + n)) (drop (1 + n) k.words.now)) where
+    side_stands : (ws : List ℕ) (t : Term) → ws ≡ row t → Ok (told k).parts t → Stands p.parts.now ws 0 t
+    side_stands ws t e o = record {
+      over = subst (λ (ps : List ℕ). Ok ps t) (sym ep) o;
+      rest = [];
+      written = e ∙ sym (append-nil (row t));
+    }
 
-    module _ (p : Comparison) (n : ℕ) (en : n ≡ k.layout.signs)
-        (ew : p.words.now ≡ take (length k.words.now - a) (drop a k.words.now))
-        (ep : p.parts.now ≡ take (1 + n - 1) (drop 1 k.words.now))
-        (er : p.ranks.now ≡ take (1 + 2 * n - (1 + n)) (drop (1 + n) k.words.now)) where
-      words_are : p.words.now ≡ drop a k.words.now
-      words_are = ew ∙ take_rest k.words.now a
-
-      over_here : (t : Term) → Ok (told k).parts t → Ok p.parts.now t
-      over_here t o = subst (λ (ps : List ℕ). Ok ps t) (sym (ep ∙ parts_are n en)) o
-
-      left_stands : Stands p 0 (rule_in k i).left
-      left_stands = record {
-        over = over_here (rule_in k i).left (rule_sides k sound i low).left;
-        rest = drop m k.words.now;
-        written = words_are ∙ at.left.written;
-      }
-
-      right_stands : Stands p ((m - a) / 2) (rule_in k i).right
-      right_stands = record {
-        over = over_here (rule_in k i).right (rule_sides k sound i low).right;
-        rest = drop z k.words.now;
-        written = ap (drop (2 * ((m - a) / 2))) words_are ∙ (drop-drop (2 * ((m - a) / 2)) a k.words.now
-            ∙ (ap (λ (x : ℕ). drop x k.words.now) there ∙ at.right.written));
-      }
-        where
-          there : a + 2 * ((m - a) / 2) ≡ m
-          there = omega (arith, at.left.long)
-
-      pub rule_told : (r : Bool) → Compares p 0 ((m - a) / 2) r → Tells r (GoesDown k i)
-      rule_told r h = subst (λ (rs : List ℕ). Tells r (Greater (rank rs) (rule_in k i).left (rule_in k i).right)) (er ∙ ranks_are n en)
-          (h (rule_in k i).left (rule_in k i).right left_stands right_stands)
+    pub rule_told : (r : Bool) → Compares p 0 0 r → Tells r (GoesDown k i)
+    rule_told r h = subst (λ (rs : List ℕ). Tells r (Greater (rank rs) (rule_in k i).left (rule_in k i).right)) (er ∙ ranks_are n en)
+        (h (rule_in k i).left (rule_in k i).right
+        (side_stands p.left.now (rule_in k i).left left (rule_sides k sound i low).left)
+        (side_stands p.right.now (rule_in k i).right right (rule_sides k sound i low).right))

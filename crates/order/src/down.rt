@@ -1,10 +1,8 @@
 // Whether the rules of a book go down.
 ghost use Rattle.std.specs.Prelude.{◌<◌, length};
 ghost use Rattle.rewriting.specs.Answers.{Tells};
-ghost use Rattle.books.specs.Books.{told};
-ghost use Rattle.books.specs.Books.{SoundBook};
-ghost use Rattle.order.specs.Downward.{GoesDown};
-ghost use Rattle.order.specs.Downward.{FirstUp};
+ghost use Rattle.books.specs.Books.{told, SoundBook};
+ghost use Rattle.order.specs.Downward.{GoesDown, FirstUp};
 
 use crate::table::Table;
 use crate::terms::Comparison;
@@ -15,16 +13,14 @@ pub fn goes_down(book: &Book, i: usize) -> bool
     requires { (SoundBook book.now) × (i < length (told book.now).rules) }
     ensures { Tells result (GoesDown book.now i) }
 {
-    let sides = book.rule(i);
-    let left = sides.left;
     let signs = book.layout.signs();
     let comparison = Comparison {
-        words: &book.words[left..],
-        parts: &book.words[1..1 + signs],
+        left: book.left(i),
+        right: book.right(i),
+        parts: book.parts(),
         ranks: &book.words[1 + signs..1 + 2 * signs],
     };
-    let mut table = Table::new();
-    comparison.greater(&mut table, 0, (sides.right - left) / 2)
+    comparison.greater(&mut Table::new(), 0, 0)
 }
 
 // The number of the first rule that does not go down.
