@@ -1,11 +1,7 @@
 // Reading a book's row.
 ghost use Rattle.std.specs.Prelude.{◌≡◌, ℕ, ◌+◌, ◌*◌, ◌<◌, ◌≤◌, length, slice_index};
 ghost use Rattle.rewriting.specs.Answers.{Tells};
-ghost use Rattle.books.specs.Layouts.{FewParts};
-ghost use Rattle.books.specs.Layouts.{AllDiffer};
-ghost use Rattle.books.specs.Layouts.{HeadRead};
-ghost use Rattle.books.specs.Layouts.{SidesRead};
-ghost use Rattle.books.specs.Layouts.{BookRead};
+ghost use Rattle.books.specs.Layouts.{FewParts, AllDiffer, HeadRead, SidesRead, BookRead};
 
 use crate::layout::Layout;
 use crate::words::{Letters, term_end};
@@ -21,32 +17,14 @@ struct Head {
 fn few_parts(parts: &[u32]) -> bool
     ensures { Tells result (FewParts parts.now) }
 {
-    for n in parts {
-        if *n > 4 {
-            return false;
-        }
-    }
-    true
-}
-
-// Whether element j stands before it too.
-fn repeats(xs: &[u32], j: usize) -> bool
-    requires { j < length xs.now }
-    ensures { Tells result ((i : ℕ) × (i < j) × (slice_index xs.now i ≡ slice_index xs.now j)) }
-{
-    for i in 0..j {
-        if xs[i] == xs[j] {
-            return true;
-        }
-    }
-    false
+    parts.iter().all(|&n| n <= 4)
 }
 
 fn all_differ(xs: &[u32]) -> bool
     ensures { Tells result (AllDiffer xs.now) }
 {
-    for j in 0..xs.len() {
-        if repeats(xs, j) {
+    for (j, x) in xs.iter().enumerate() {
+        if xs[..j].contains(x) {
             return false;
         }
     }
@@ -56,10 +34,7 @@ fn all_differ(xs: &[u32]) -> bool
 fn read_head(words: &[u32]) -> Option<Head>
     ensures { HeadRead words.now result }
 {
-    if words.is_empty() {
-        return None;
-    }
-    let signs = words[0] as usize;
+    let signs = *words.first()? as usize;
     if signs == 0 || signs > 32 || words.len() < 3 + 2 * signs {
         return None;
     }

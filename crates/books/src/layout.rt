@@ -33,10 +33,6 @@ impl Layout {
     pub fn start(&self, i: usize) -> usize
         ensures { result ≡ slice_index self.now.starts i }
     {
-        if i < self.starts.len() {
-            self.starts[i]
-        } else {
-            0
-        }
+        self.starts.get(i).copied().unwrap_or(0)
     }
 }

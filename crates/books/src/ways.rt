@@ -10,10 +10,7 @@ use crate::words::{Letters, term_end, terms_end};
 pub fn is_term(parts: &[u32], words: &[u32]) -> bool
     ensures { Tells result ((t : Term) × Of parts.now words.now t) }
 {
-    match term_end(Letters::Small, parts, words, 0) {
-        Some(end) => end == words.len(),
-        None => false,
-    }
+    term_end(Letters::Small, parts, words, 0) == Some(words.len())
 }
 
 // Whether the words are as many ways of terms of the signature, with any letters, as there are rules.
