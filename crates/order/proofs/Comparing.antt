@@ -1,14 +1,32 @@
--- The first terms that differ.
-use Rattle.std.proofs.Common.{◌≡◌, ℕ, ◌+◌, ◌<◌, ◌≤◌, Bool, true, false, ◌⊎◌, List, Some, None, sym, refl, subst, subst₂, inl, inr, arith}
-use Rattle.rewriting.specs.Terms.{Term, Terms, none1, and1, Fits, SmallLetter}
+-- Terms that are the same, and the first that differ.
+use Rattle.std.proofs.Common.{◌≡◌, ℕ, Bool, true, false, List, [], ◌++◌, Some, None, Option as Maybe, Decides, MatchOption, sym, ap, ◌∙◌, refl, subst, subst₂, inl, inr, arith}
+use Rattle.std.specs.Option.{option_eq}
+use borrow.Author.Tests.{clash}
+use denote.Ref.{Bor}
+use Rattle.rewriting.specs.Terms.{Term, Terms, and1, Fits, SmallLetter}
 use Rattle.rewriting.specs.Order.{Rank, Greater, Grounded, grounded, FirstGreater, further}
 use Rattle.rewriting.specs.Answers.{Tells}
 use Rattle.rewriting.proofs.Grounding.{order_ends_lem}
 use Rattle.rewriting.proofs.Signature.{over_fits}
+use Rattle.books.specs.Rows.{row}
 use Rattle.order.specs.declared.terms.Comparison.{Comparison}
 use Rattle.order.specs.declared.terms.Parts.{Parts}
-use Rattle.order.specs.Comparing.{by, AllOnLeft, AllOnRight, Split, Splits, Equates, Compares, SameFirst, Skips, DifferAt}
+use Rattle.order.specs.Comparing.{by, OnLeft, OnRight, AllOnLeft, AllOnRight, Split, Splits, Equates, Compares, SameFirst, Skips, DifferAt}
 use Rattle.order.proofs.Telling.{tells_through, first_none, first_none_right, first_cases, first_here}
+use Rattle.order.proofs.Standing.{row_once}
+
+-- the same words are the same term
+module _ (p : Comparison) (k j : ℕ) {E : List ℕ → List ℕ → Bool} (tests : (v w : List ℕ) (r : Bool) → r ≡ E v w → Decides r (v ≡ w)) where
+  pub same_words : (v w : Maybe (Bor (List ℕ))) → MatchOption v ((t : Term) → OnLeft p k t → ⊥) (λ v. (t : Term) → OnLeft p k t → v.now ≡ row t) →
+      MatchOption w ((u : Term) → OnRight p j u → ⊥) (λ w. (u : Term) → OnRight p j u → w.now ≡ row u) →
+      (r : Bool) → r ≡ option_eq (λ v w. E v.now w.now) v w → Equates p k j r
+  same_words None w h g r e t u s z = absurd (h t s)
+  same_words (Some v) None h g r e t u s z = absurd (g u z)
+  same_words (Some v) (Some w) h g r e t u s z = record {
+    holds = λ y. row_once p.parts.now t u [] [] s.over z.over
+        (ap (λ (x : List ℕ). x ++ []) (sym (h t s) ∙ ((tests v.now w.now r e).0 y ∙ g u z)));
+    fails = λ y d. absurd (clash (sym y ∙ (tests v.now w.now r e).1 (h t s ∙ (ap row d ∙ sym (g u z)))));
+  }
 
 -- no term is greater than itself
 not_itself : (rk : Rank) (ps : List ℕ) {t : Term} → Grounded rk ps t → Fits ps t → Greater rk t t → ⊥
@@ -57,7 +75,7 @@ module _ (p : Comparison) (m n a b : Parts) (skips : Skips p m n a b) where
 
         off : FirstGreater (by p) vs ws → FirstGreater (by p) x.others y.others
         off o = elim (first_cases (subst₂ (FirstGreater (by p)) x.both y.both o)) [
-          inl g ↦ absurd (never (subst (Greater (by p) x.first) (sym is) g))
+          | inl g ↦ absurd (never (subst (Greater (by p) x.first) (sym is) g))
           | inr h ↦ h.1
         ]
 

@@ -1,14 +1,14 @@
 -- The order's cases, where the terms stand.
-use Rattle.std.proofs.Common.{◌≡◌, ℕ, ◌<◌, Bool, true, false, Some, None, sym, refl, ap, subst, subst₂, inl, inr, arith}
-use Rattle.rewriting.specs.Terms.{Term, letter, sign, Terms, none1, and1}
+use Rattle.std.proofs.Common.{◌≡◌, ℕ, Bool, true, false, Some, None, sym, refl, ap, subst, subst₂, inl, inr, arith}
+use Rattle.rewriting.specs.Terms.{Term, letter, sign, Terms}
 use Rattle.rewriting.specs.Order.{Greater, by_part, SomeAtLeast, this_more, none_there, AllLess, FirstGreater}
 use Rattle.rewriting.specs.Answers.{Tells}
 use Rattle.order.specs.declared.terms.Comparison.{Comparison}
 use Rattle.order.specs.declared.terms.Parts.{Parts}
 use Rattle.order.specs.declared.terms.Head.{Head}
-use Rattle.order.specs.Comparing.{by, OnLeft, OnRight, AllOnLeft, AllOnRight, Headed, Split, Splits, Equates, Compares, Covers, Exceeds}
-use Rattle.order.specs.Comparing.{Before, Precedes, DifferAt}
-use Rattle.order.proofs.Telling.{tells_yes, tells_no, tells_through, some_none, some_is, some_later, all_not, all_later}
+use Rattle.order.specs.Comparing.{by, OnLeft, AllOnLeft, AllOnRight, Headed, Splits, Equates, Compares, Covers, Exceeds}
+use Rattle.order.specs.Comparing.{Before, Precedes}
+use Rattle.order.proofs.Telling.{tells_yes, tells_through, some_none, some_is, some_later, all_not, all_later}
 use Rattle.order.proofs.Telling.{greater_letter, greater_than_letter, greater_not_before, greater_before}
 
 -- each of some terms on the right

@@ -1,5 +1,5 @@
 -- Terms that stand in words: where their parts stand and where they end.
-use Rattle.std.proofs.Common.{◌≡◌, ℕ, zero, suc, ◌+◌, ◌-◌, ◌*◌, ◌<◌, ◌≤◌, List, [], ◌∷◌, ◌++◌, length, get_or, take, drop, Some, None, sym, refl}
+use Rattle.std.proofs.Common.{◌≡◌, ℕ, zero, suc, ◌+◌, ◌-◌, ◌*◌, ◌≤◌, List, [], ◌∷◌, ◌++◌, length, get_or, take, drop, Some, None, sym, refl}
 use Rattle.std.proofs.Common.{ap, ◌∙◌, subst, append_assoc, append-nil, arith, length-append, length-drop}
 use Rattle.std.proofs.lemmas.List.{get_or-drop, drop-drop, drop_at, take_at}
 use Rattle.rewriting.specs.Terms.{Term, letter, sign, Terms, none1, and1, count, size, Over, SmallLetter}
@@ -53,11 +53,8 @@ module _ (ps ws : List ℕ) (k : ℕ) where
     counted = sym (e ∙ nth_is ps f (count ts) 0 s.over.0);
     over = s.over.1;
     rest = s.rest;
-    written = ap (λ (i : ℕ). drop i ws) there ∙ (sym (drop-drop 2 k ws) ∙ ap (drop 2) s.written);
+    written = sym (drop-drop 2 k ws) ∙ ap (drop 2) s.written;
   }
-    where
-      there : k + 2 ≡ k + 2
-      there = omega arith
 
   pub sign_stands : (f n : ℕ) → SymbolAt ws k (Some (Sign f)) → n ≡ get_or ps f 0 → (t : Term) → Stands ps ws k t →
       (ts : Terms) × (t ≡ sign f ts) × Stand ps ws record { count = n; start = k + 2 } ts

@@ -2,7 +2,7 @@
 use Rattle.std.proofs.Common.{◌≡◌, ℕ, ◌<◌, ◌≤◌, Bool, ◌⊎◌, List, [], length, get_or, set, replicate, Some, None, Option as Maybe, sym, ap}
 use Rattle.std.proofs.Common.{◌∙◌, inl, inr, arith}
 use native.Mathlib.Decide.{ℕ_discrete, dec_lt}
-use Rattle.std.proofs.lemmas.List.{get_or-set_same, get_or-set_other, get_or-replicate, get_or_past, set_past}
+use Rattle.std.proofs.lemmas.List.{get_or-set_same, get_or-set_other, get_or-replicate, set_past}
 use Rattle.order.specs.declared.terms.Comparison.{Comparison}
 use Rattle.order.specs.declared.table.Table.{Table}
 use Rattle.order.specs.Tables.{Celled, cell, Noted}
@@ -11,8 +11,9 @@ use Rattle.order.specs.Comparing.{Compares, Truthful}
 none_some : {b : Bool} → ◌≡◌ {A = Maybe Bool} None (Some b) → ⊥
 none_some e = let z : ◌≡◌ {A = ℕ} 0 1 = cc in omega arith
 
-pub truthful_new : (p : Comparison) (tb : Table) → tb.answers ≡ replicate 64 (replicate 64 None) → Truthful p tb
-truthful_new p tb e k j b h is = absurd (none_some (sym fresh ∙ is))
+-- a new table has no answers
+pub none_in_new : (tb : Table) → tb.answers ≡ replicate 64 (replicate 64 None) → (k j : ℕ) (b : Bool) → Celled k j → cell tb k j ≡ Some b → ⊥
+none_in_new tb e k j b h is = none_some (sym fresh ∙ is)
   where
     line : get_or tb.answers k [] ≡ replicate 64 None
     line = ap (λ (v : List (List (Maybe Bool))). get_or v k []) e ∙ get_or-replicate 64 k (replicate 64 None) [] h.0

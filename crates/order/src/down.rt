@@ -1,7 +1,7 @@
 // Whether the rules of a book go down.
 ghost use Rattle.std.specs.Prelude.{◌<◌, length};
 ghost use Rattle.rewriting.specs.Answers.{Tells};
-ghost use Rattle.books.specs.Books.{told, SoundBook};
+ghost use Rattle.books.specs.Books.{told};
 ghost use Rattle.order.specs.Downward.{GoesDown, FirstUp};
 
 use crate::table::Table;
@@ -10,22 +10,20 @@ use books::Book;
 
 // Whether rule i goes down: its left side is greater than its right side by the book's ranks.
 pub fn goes_down(book: &Book, i: usize) -> bool
-    requires { (SoundBook book.now) × (i < length (told book.now).rules) }
+    requires { i < length (told book.now).rules }
     ensures { Tells result (GoesDown book.now i) }
 {
-    let signs = book.layout.signs();
     let comparison = Comparison {
         left: book.left(i),
         right: book.right(i),
         parts: book.parts(),
-        ranks: &book.words[1 + signs..1 + 2 * signs],
+        ranks: book.ranks(),
     };
     comparison.greater(&mut Table::new(), 0, 0)
 }
 
 // The number of the first rule that does not go down.
 pub fn first_up(book: &Book) -> Option<usize>
-    requires { SoundBook book.now }
     ensures { FirstUp book.now result }
 {
     let mut i = 0usize;

@@ -4,10 +4,13 @@ use Rattle.order.proofs.Standing.{splits_none, splits_no_term, splits_some}
 use Rattle.order.proofs.terms.Comparison.rest.Goals as goal
 
 pub returns-in_err-count : goal.returns-in_err-count
-returns-in_err-count c = let h = c.checked_sub.ensures in let k = c.from_residual.ensures in let l = c.in_err-count.was in let m = c.in_err-count.ensures in ?
+returns-in_err-count c = rw c.from_residual.ensures
+    (splits_none c.args.self.now.parts.now c.args.words.now c.args.terms (omega (arith, c.in_err-count.ensures)))
 
 pub returns-in_err-start : goal.returns-in_err-start
-returns-in_err-start c = ?
+returns-in_err-start c = rw c.from_residual-in_err-start.ensures
+    (splits_no_term c.args.self.now.parts.now c.args.words.now c.args.terms c.in_err-start.ensures)
 
 pub returns : goal.returns
-returns c = let h = c.in_ok-start.ensures in let e = c.in_ok-count.ensures in ?
+returns c = splits_some c.args.self.now.parts.now c.args.words.now c.args.terms _
+    (omega (arith, c.in_ok-count.ensures)) c.in_ok-start.ensures
