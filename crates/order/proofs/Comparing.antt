@@ -16,8 +16,10 @@ use Rattle.order.proofs.Telling.{tells_through, first_none, first_none_right, fi
 use Rattle.order.proofs.Standing.{row_once}
 
 -- the same words are the same term
-module _ (p : Comparison) (k j : ℕ) {E : List ℕ → List ℕ → Bool} (tests : (v w : List ℕ) (r : Bool) → r ≡ E v w → Decides r (v ≡ w)) where
-  pub same_words : (v w : Maybe (Bor (List ℕ))) → MatchOption v ((t : Term) → OnLeft p k t → ⊥) (λ v. (t : Term) → OnLeft p k t → v.now ≡ row t) →
+module _ (p : Comparison) (k j : ℕ) {E : List ℕ → List ℕ → Bool}
+    (tests : (v w : List ℕ) (r : Bool) → r ≡ E v w → Decides r (v ≡ w)) where
+  pub same_words : (v w : Maybe (Bor (List ℕ))) →
+      MatchOption v ((t : Term) → OnLeft p k t → ⊥) (λ v. (t : Term) → OnLeft p k t → v.now ≡ row t) →
       MatchOption w ((u : Term) → OnRight p j u → ⊥) (λ w. (u : Term) → OnRight p j u → w.now ≡ row u) →
       (r : Bool) → r ≡ option_eq (λ v w. E v.now w.now) v w → Equates p k j r
   same_words None w h g r e t u s z = absurd (h t s)

@@ -12,7 +12,8 @@ none_some : {b : Bool} → ◌≡◌ {A = Maybe Bool} None (Some b) → ⊥
 none_some e = let z : ◌≡◌ {A = ℕ} 0 1 = cc in omega arith
 
 -- a new table has no answers
-pub none_in_new : (tb : Table) → tb.answers ≡ replicate 64 (replicate 64 None) → (k j : ℕ) (b : Bool) → Celled k j → cell tb k j ≡ Some b → ⊥
+pub none_in_new : (tb : Table) → tb.answers ≡ replicate 64 (replicate 64 None) → (k j : ℕ) (b : Bool) →
+    Celled k j → cell tb k j ≡ Some b → ⊥
 none_in_new tb e k j b h is = none_some (sym fresh ∙ is)
   where
     line : get_or tb.answers k [] ≡ replicate 64 None
@@ -22,11 +23,13 @@ none_in_new tb e k j b h is = none_some (sym fresh ∙ is)
     fresh = ap (λ (v : List (Maybe Bool)). get_or v j None) line ∙ get_or-replicate 64 j None None h.1
 
 -- what is read after a write: what was written, or what was there
-set_cases : {A : Type 0} (xs : List A) (i n : ℕ) (x d : A) →
-    ((n ≡ i) × (get_or (set xs i x) n d ≡ x)) ⊎ (get_or (set xs i x) n d ≡ get_or xs n d)
-set_cases {A} xs i n x d = aux (ℕ_discrete n i) (dec_lt i (length xs))
+abbrev AfterWrite : {A : Type 0} → List A → ℕ → ℕ → A → A → Type 0
+AfterWrite xs i n x d = ((n ≡ i) × (get_or (set xs i x) n d ≡ x)) ⊎ (get_or (set xs i x) n d ≡ get_or xs n d)
+
+after_write : {A : Type 0} (xs : List A) (i n : ℕ) (x d : A) → AfterWrite xs i n x d
+after_write {A} xs i n x d = aux (ℕ_discrete n i) (dec_lt i (length xs))
   where
-    aux : Dec (n ≡ i) → Dec (i < length xs) → ((n ≡ i) × (get_or (set xs i x) n d ≡ x)) ⊎ (get_or (set xs i x) n d ≡ get_or xs n d)
+    aux : Dec (n ≡ i) → Dec (i < length xs) → AfterWrite xs i n x d
     aux (no other) low = inr (get_or-set_other xs i n x d other)
     aux (yes q) (yes low) = inl (q, ap (λ (m : ℕ). get_or (set xs i x) m d) q ∙ get_or-set_same xs i x d low)
     aux (yes q) (no high) =
@@ -34,23 +37,24 @@ set_cases {A} xs i n x d = aux (ℕ_discrete n i) (dec_lt i (length xs))
         inr (ap (λ (v : List A). get_or v n d) (set_past xs i x past))
 
 module _ (p : Comparison) (tb new : Table) (k j : ℕ) (b : Bool) (told : Compares p k j b) (truth : Truthful p tb) where
+  abbrev was : List (Maybe Bool)
+  was = get_or tb.answers k []
+
+  abbrev row : List (Maybe Bool)
+  row = set (get_or tb.answers k []) j (Some b)
+
   at_cell : new.answers ≡ set tb.answers k (set (get_or tb.answers k []) j (Some b)) → Truthful p new
-  at_cell e m n d g is = by_row (set_cases tb.answers k m (set (get_or tb.answers k []) j (Some b)) [])
+  at_cell e m n d g is = by_row (after_write tb.answers k m row [])
     where
-      put : get_or (get_or (set tb.answers k (set (get_or tb.answers k []) j (Some b))) m []) n None ≡ Some d
+      put : get_or (get_or (set tb.answers k row) m []) n None ≡ Some d
       put = ap (λ (v : List (List (Maybe Bool))). get_or (get_or v m []) n None) (sym e) ∙ is
 
-      in_row : m ≡ k → get_or (set (get_or tb.answers k []) j (Some b)) n None ≡ Some d → Compares p m n d
-      in_row q row = by_cell (set_cases (get_or tb.answers k []) j n (Some b) None)
-        where
-          by_cell : ((n ≡ j) × (get_or (set (get_or tb.answers k []) j (Some b)) n None ≡ Some b))
-              ⊎ (get_or (set (get_or tb.answers k []) j (Some b)) n None ≡ get_or (get_or tb.answers k []) n None) → Compares p m n d
-          by_cell (inl (r, o)) = let w : b ≡ d = cc in rw (q, r, ← w) told
-          by_cell (inr o) = truth m n d g (ap (λ (i : ℕ). get_or (get_or tb.answers i []) n None) q ∙ (sym o ∙ row))
+      by_cell : m ≡ k → get_or row n None ≡ Some d → AfterWrite was j n (Some b) None → Compares p m n d
+      by_cell q o (inl (r, w)) = let same : b ≡ d = cc in rw (q, r, ← same) told
+      by_cell q o (inr w) = truth m n d g (ap (λ (i : ℕ). get_or (get_or tb.answers i []) n None) q ∙ (sym w ∙ o))
 
-      by_row : ((m ≡ k) × (get_or (set tb.answers k (set (get_or tb.answers k []) j (Some b))) m [] ≡ set (get_or tb.answers k []) j (Some b)))
-          ⊎ (get_or (set tb.answers k (set (get_or tb.answers k []) j (Some b))) m [] ≡ get_or tb.answers m []) → Compares p m n d
-      by_row (inl (q, o)) = in_row q (ap (λ (v : List (Maybe Bool)). get_or v n None) (sym o) ∙ put)
+      by_row : AfterWrite tb.answers k m row [] → Compares p m n d
+      by_row (inl (q, o)) = by_cell q (ap (λ (v : List (Maybe Bool)). get_or v n None) (sym o) ∙ put) (after_write was j n (Some b) None)
       by_row (inr o) = truth m n d g (ap (λ (v : List (Maybe Bool)). get_or v n None) (sym o) ∙ put)
 
   pub truthful_noted : Noted tb k j b new → Truthful p new

@@ -4,6 +4,9 @@ ghost use Rattle.order.specs.Comparing.{Compares, Covers, Exceeds, Precedes, Tru
 use crate::table::Table;
 use crate::terms::{Comparison, Head, Parts};
 
+// Stays recursion in a cycle: the order is defined so, and goes no deeper than a side's 32 symbols.
+// Stays a clause of each function, that the table is truthful: an order has many proofs, so this is no ghost field, and a struct with the
+// table in it, behind `&mut self`, would need a clause of each function that its sides stay.
 impl Comparison<'_> {
     // Whether the term at place k is greater than the one at place j, by the table if it is known there.
     #[cycle(all_less_compare_greater_precedes_some_at_least)]
@@ -78,6 +81,7 @@ impl Comparison<'_> {
         if f.sign != g.sign {
             return self.rank(f.sign) > self.rank(g.sign);
         }
+        // Stays a match: in its place a closure would call back into the cycle.
         match self.first_difference(f.parts, g.parts) {
             Some((k, j)) => self.greater(table, k, j),
             None => false,

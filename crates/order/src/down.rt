@@ -26,6 +26,7 @@ pub fn goes_down(book: &Book, i: usize) -> bool
 pub fn first_up(book: &Book) -> Option<usize>
     ensures { FirstUp book.now result }
 {
+    // Stays a labelled loop with a value: the project keeps this form here.
     let mut i = 0usize;
     'rules: loop {
         if i >= book.layout.rules() {

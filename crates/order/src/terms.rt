@@ -88,6 +88,7 @@ impl Comparison<'_> {
     pub fn first_difference(&self, lefts: Parts, rights: Parts) -> Option<(usize, usize)>
         ensures { DifferAt self.now lefts rights result }
     {
+        // Stays a loop that yields by `break`: the project keeps this form here.
         let mut a = lefts;
         let mut b = rights;
         loop {
