@@ -1,5 +1,6 @@
 -- Terms that are the same, and the first that differ.
-use Rattle.std.proofs.Common.{◌≡◌, ℕ, Bool, true, false, List, [], ◌++◌, Some, None, Option as Maybe, Decides, MatchOption, sym, ap, ◌∙◌, refl, subst, subst₂, inl, inr, arith}
+use Rattle.std.proofs.Common.{◌≡◌, ℕ, Bool, true, false, List, [], ◌++◌, Some, None, Option as Maybe, Decides, MatchOption}
+use Rattle.std.proofs.Common.{sym, ap, ◌∙◌, refl, subst, subst₂, inl, inr, arith}
 use Rattle.std.specs.Option.{option_eq}
 use borrow.Author.Tests.{clash}
 use denote.Ref.{Bor}
@@ -46,7 +47,8 @@ module _ (p : Comparison) (m n a b : Parts) (skips : Skips p m n a b) where
       let q = skips.2 ts us s v in
       first_none_right (subst (FirstGreater (by p) q.vs) (none q.ws q.right) (q.to o))
 
-  module _ (c d : Parts) (more_left : Splits p.parts.now p.left.now a (Some c)) (more_right : Splits p.parts.now p.right.now b (Some d)) where
+  module _ (c d : Parts) (more_left : Splits p.parts.now p.left.now a (Some c))
+      (more_right : Splits p.parts.now p.right.now b (Some d)) where
     -- terms that differ are found
     pub skips_differ : Equates p a.start b.start false → DifferAt p m n (Some (a.start, b.start))
     skips_differ differ = (skips.0, skips.1, found)

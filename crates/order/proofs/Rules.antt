@@ -32,7 +32,8 @@ module _ (k : Book) where
       written = e ∙ sym (append-nil (row t));
     }
 
-    pub rule_told : (r : Bool) → ((t u : Term) → Stands ps ls 0 t → Stands ps rs 0 u → Tells r (Greater (rank os) t u)) → Tells r (GoesDown k i)
+    pub rule_told : (r : Bool) → ((t u : Term) → Stands ps ls 0 t → Stands ps rs 0 u → Tells r (Greater (rank os) t u)) →
+        Tells r (GoesDown k i)
     rule_told r h =
         let sides = rule_sides k (sound_book_in k) i low in
         subst (λ (os : List ℕ). Tells r (Greater (rank os) (rule_in k i).left (rule_in k i).right)) ranks

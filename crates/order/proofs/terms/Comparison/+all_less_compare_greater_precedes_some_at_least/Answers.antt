@@ -4,7 +4,8 @@ use Rattle.order.proofs.Deciding.{exceeds_none, exceeds_not, exceeds_next, cover
 use Rattle.order.proofs.Deciding.{compares_letter, compares_part, compares_over_letter, compares_not_before, compares_before, precedes_same}
 use Rattle.order.proofs.Tables.{truthful_noted}
 use Rattle.order.proofs.terms.Comparison.+all_less_compare_greater_precedes_some_at_least.Goals as goal
-use Rattle.order.proofs.terms.Comparison.+all_less_compare_greater_precedes_some_at_least.Goals.{some_at_least-then-same, some_at_least-else-same}
+use Rattle.order.proofs.terms.Comparison.+all_less_compare_greater_precedes_some_at_least.Goals.{some_at_least-then-same}
+use Rattle.order.proofs.terms.Comparison.+all_less_compare_greater_precedes_some_at_least.Goals.{some_at_least-else-same}
 
 pub all_less-returns-in_default-clause-is : goal.all_less-returns-in_default-clause-is
 all_less-returns-in_default-clause-is t c = exceeds_none c.args.self.now c.args.k c.args.terms c.in_default.ensures
