@@ -114,3 +114,9 @@ module _ (ps h : List ℕ) (a : ℕ) where
 
   pub ways_all : a ≡ length h → SomeWays ps 0 (drop a h)
   ways_all e = ([], record { written = sym (ap (λ (k : ℕ). drop k h) e ∙ drop-length h); each = refl; fit = tt })
+
+-- no end where there are no ways
+pub none_read : (ps : List ℕ) (n : ℕ) (h : List ℕ) (o : Maybe ℕ) → o ≡ None → (SomeWays ps n h → ⊥) →
+    (o ≡ Some (length h)) ↔ SomeWays ps n h
+none_read ps n h (Some z) e f = let z : ◌≡◌ {A = ℕ} 0 1 = cc in absurd (omega arith)
+none_read ps n h None e f = (λ q. let z : ◌≡◌ {A = ℕ} 0 1 = cc in absurd (omega arith), λ p. absurd (f p))

@@ -61,36 +61,26 @@ fn read_sides(parts: &[u32], words: &[u32], from: usize, count: usize) -> Option
     let mut starts = [0; 257];
     starts[0] = from;
     let mut at = from;
-    for i in 0..count {
-        let Some(end) = term_end(Letters::Small, parts, words, at) else {
-            return None;
-        };
+    for start in starts[1..=count].iter_mut() {
+        let end = term_end(Letters::Small, parts, words, at)?;
         // 32 symbols of two words
         if end > at + 64 {
             return None;
         }
-        starts[i + 1] = end;
+        *start = end;
         at = end;
     }
-    if at == words.len() {
-        Some(starts)
-    } else {
-        None
-    }
+    (at == words.len()).then_some(starts)
 }
 
 // The book that the words are, by where its sides stand; or none.
 pub fn read_book(words: &[u32]) -> Option<Layout>
     ensures { BookRead words.now result }
 {
-    let Some(head) = read_head(words) else {
-        return None;
-    };
+    let head = read_head(words)?;
     let parts = &words[1..1 + head.signs];
     let sides = 2 * head.equations + 2 * head.rules;
-    let Some(starts) = read_sides(parts, words, 3 + 2 * head.signs, sides) else {
-        return None;
-    };
+    let starts = read_sides(parts, words, 3 + 2 * head.signs, sides)?;
     Some(Layout {
         signs: head.signs,
         equations: head.equations,

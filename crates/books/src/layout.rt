@@ -7,6 +7,7 @@ pub struct Layout {
     pub(crate) signs: usize,
     pub(crate) equations: usize,
     pub(crate) rules: usize,
+    // Stays an array: the two counts above say how much of it is used, and where the rules begin; a length of its own would say so again.
     pub(crate) starts: [usize; 257],
 }
 
