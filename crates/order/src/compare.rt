@@ -5,8 +5,7 @@ use crate::table::Table;
 use crate::terms::{Comparison, Head, Parts};
 
 // Stays recursion in a cycle: the order is defined so, and goes no deeper than a side's 32 symbols.
-// Stays a clause of each function, that the table is truthful: an order has many proofs, so this is no ghost field, and a struct with the
-// table in it, behind `&mut self`, would need a clause of each function that its sides stay.
+// Stays in each contract, that the table is truthful: in one struct with it each would have to say instead that the sides stay.
 impl Comparison<'_> {
     // Whether the term at place k is greater than the one at place j, by the table if it is known there.
     #[cycle(all_less_compare_greater_precedes_some_at_least)]
