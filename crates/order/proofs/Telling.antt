@@ -53,6 +53,9 @@ module _ {rk : Rank} where
   pub first_none : {us : Terms} → FirstGreater rk none1 us → ⊥
   first_none o = elim o [ ]
 
+  pub first_none_right : {ts : Terms} → FirstGreater rk ts none1 → ⊥
+  first_none_right o = elim o [ ]
+
   pub first_cases : {t u : Term} {ts us : Terms} → FirstGreater rk (and1 t ts) (and1 u us) →
       Greater rk t u ⊎ ((t ≡ u) × FirstGreater rk ts us)
   first_cases (here g) = inl g

@@ -1,89 +1,105 @@
--- The terms that stand in a rule's words, and how they compare.
-use Rattle.std.specs.Prelude.{◌≡◌, ℕ, ◌+◌, ◌*◌, ◌<◌, ◌≤◌, Bool, ◌⊎◌, List, ◌++◌, length, drop, Some, None, Option as Maybe, slice_index}
-use Rattle.rewriting.specs.Terms.{Term, letter, sign, Terms, count, size, Ok, AllOver, SmallLetter}
+-- The terms that stand in a rule's sides, and how they compare.
+use Rattle.std.specs.Prelude.{◌≡◌, ℕ, ◌+◌, ◌<◌, ◌≤◌, Bool, ◌⊎◌, List, ◌++◌, length, drop, Some, None, Option as Maybe, slice_index}
+use Rattle.rewriting.specs.Terms.{Term, letter, sign, Terms, none1, and1, count, Ok, AllOver, SmallLetter}
 use Rattle.rewriting.specs.Order.{Rank, rank, Greater, SomeAtLeast, AllLess, FirstGreater}
 use Rattle.rewriting.specs.Answers.{Tells}
 use Rattle.books.specs.Rows.{row, rows}
 use Rattle.order.specs.declared.terms.Comparison.{Comparison}
+use Rattle.order.specs.declared.terms.Parts.{Parts}
 use Rattle.order.specs.declared.terms.Head.{Head}
-use Rattle.order.specs.declared.terms.Head.TheVariants.{Letter, Sign}
 use Rattle.order.specs.declared.table.Table.{Table}
 use Rattle.order.specs.Tables.{Celled, cell}
-
--- how many words there are
-abbrev pub room : Comparison → ℕ
-room p = length p.words.now
 
 -- the precedence
 abbrev pub by : Comparison → Rank
 by p = rank p.ranks.now
 
--- the term t stands from symbol k on
-pub record Stands (p : Comparison) (k : ℕ) (t : Term) : Type 0 where
-  pub over : Ok p.parts.now t
+-- the term t, over the signature ps, stands in the words ws from place k on
+pub record Stands (ps ws : List ℕ) (k : ℕ) (t : Term) : Type 0 where
+  pub over : Ok ps t
   pub rest : List ℕ
-  pub written : drop (2 * k) p.words.now ≡ row t ++ rest
+  pub written : drop k ws ≡ row t ++ rest
 
--- the n terms ts stand from symbol k on, one after the other
-pub record Stand (p : Comparison) (n k : ℕ) (ts : Terms) : Type 0 where
-  pub counted : count ts ≡ n
-  pub over : AllOver SmallLetter p.parts.now ts
+-- the terms ts stand there, one after the other
+pub record Stand (ps ws : List ℕ) (p : Parts) (ts : Terms) : Type 0 where
+  pub counted : count ts ≡ p.count
+  pub over : AllOver SmallLetter ps ts
   pub rest : List ℕ
-  pub written : drop (2 * k) p.words.now ≡ rows ts ++ rest
+  pub written : drop p.start ws ≡ rows ts ++ rest
 
--- what stands at symbol k: a letter, or a sign with its number of parts, and these behind it
-abbrev pub Headed : Comparison → ℕ → Head → Type 0
-Headed p k Letter = (t : Term) → Stands p k t → (x : ℕ) × (t ≡ letter x)
-Headed p k (Sign f n) = (2 * k + 2 ≤ room p) × (n ≡ slice_index p.parts.now f)
-    × ((t : Term) → Stands p k t → (ts : Terms) × (t ≡ sign f ts) × Stand p n (k + 1) ts)
+-- a term and some terms on a rule's left side, and on its right side
+abbrev pub OnLeft : Comparison → ℕ → Term → Type 0
+OnLeft p = Stands p.parts.now p.left.now
 
--- where the term at symbol k ends, or that there is none
-abbrev pub Ends : Comparison → ℕ → Maybe ℕ → Type 0
-Ends p k (Some z) = (k < z) × (2 * z ≤ room p) × ((t : Term) → Stands p k t → z ≡ k + size t)
-Ends p k None = (t : Term) → Stands p k t → ⊥
+abbrev pub OnRight : Comparison → ℕ → Term → Type 0
+OnRight p = Stands p.parts.now p.right.now
 
--- the terms at two symbols are the same, or not
+abbrev pub AllOnLeft : Comparison → Parts → Terms → Type 0
+AllOnLeft p = Stand p.parts.now p.left.now
+
+abbrev pub AllOnRight : Comparison → Parts → Terms → Type 0
+AllOnRight p = Stand p.parts.now p.right.now
+
+-- the sign that stands at place k, with its parts behind it; or that a letter stands there
+abbrev pub Headed : List ℕ → List ℕ → ℕ → Maybe Head → Type 0
+Headed ps ws k (Some h) = (k + 2 ≤ length ws) × (h.parts.start ≡ k + 2) × (h.parts.count ≡ slice_index ps h.sign)
+    × ((t : Term) → Stands ps ws k t → (ts : Terms) × (t ≡ sign h.sign ts) × Stand ps ws h.parts ts)
+Headed ps ws k None = (t : Term) → Stands ps ws k t → (x : ℕ) × (t ≡ letter x)
+
+-- the first of some terms, and the others behind it
+pub record Split (ps ws : List ℕ) (p q : Parts) (ts : Terms) : Type 0 where
+  pub first : Term
+  pub others : Terms
+  pub both : ts ≡ and1 first others
+  pub there : Stands ps ws p.start first
+  pub behind : Stand ps ws q others
+
+-- where the others stand, or that there are no terms
+abbrev pub Splits : List ℕ → List ℕ → Parts → Maybe Parts → Type 0
+Splits ps ws p (Some q) = (p.start < q.start) × (q.start ≤ length ws) × ((ts : Terms) → Stand ps ws p ts → Split ps ws p q ts)
+Splits ps ws p None = (ts : Terms) → Stand ps ws p ts → ts ≡ none1
+
+-- the terms at two places are the same, or not
 abbrev pub Equates : Comparison → ℕ → ℕ → Bool → Type 0
-Equates p k j r = (t u : Term) → Stands p k t → Stands p j u → Tells r (t ≡ u)
+Equates p k j r = (t u : Term) → OnLeft p k t → OnRight p j u → Tells r (t ≡ u)
 
--- the term at one symbol is greater than that at another, or not
+-- the term at one place is greater than that at another, or not
 abbrev pub Compares : Comparison → ℕ → ℕ → Bool → Type 0
-Compares p k j r = (t u : Term) → Stands p k t → Stands p j u → Tells r (Greater (by p) t u)
+Compares p k j r = (t u : Term) → OnLeft p k t → OnRight p j u → Tells r (Greater (by p) t u)
 
--- one of n terms is the one at symbol j or greater, or none is
-abbrev pub Covers : Comparison → ℕ → ℕ → ℕ → Bool → Type 0
-Covers p n k j r = (ts : Terms) (u : Term) → Stand p n k ts → Stands p j u → Tells r (SomeAtLeast (by p) ts u)
+-- one of some terms is the one at place j or greater, or none is
+abbrev pub Covers : Comparison → Parts → ℕ → Bool → Type 0
+Covers p a j r = (ts : Terms) (u : Term) → AllOnLeft p a ts → OnRight p j u → Tells r (SomeAtLeast (by p) ts u)
 
--- the term at symbol k is greater than each of n terms, or not
-abbrev pub Exceeds : Comparison → ℕ → ℕ → ℕ → Bool → Type 0
-Exceeds p k n j r = (t : Term) (us : Terms) → Stands p k t → Stand p n j us → Tells r (AllLess (by p) t us)
+-- the term at place k is greater than each of some terms, or not
+abbrev pub Exceeds : Comparison → ℕ → Parts → Bool → Type 0
+Exceeds p k b r = (t : Term) (us : Terms) → OnLeft p k t → AllOnRight p b us → Tells r (AllLess (by p) t us)
 
--- from k and j on, `FirstGreater` of n terms each is that of m terms each from a and b on
-pub record SameFirst (p : Comparison) (m a b : ℕ) (ts us : Terms) : Type 0 where
+-- `FirstGreater` of some terms each is that of the terms at a and b
+pub record SameFirst (p : Comparison) (a b : Parts) (ts us : Terms) : Type 0 where
   pub vs : Terms
   pub ws : Terms
-  pub left : Stand p m a vs
-  pub right : Stand p m b ws
+  pub left : AllOnLeft p a vs
+  pub right : AllOnRight p b ws
   pub to : FirstGreater (by p) ts us → FirstGreater (by p) vs ws
   pub from : FirstGreater (by p) vs ws → FirstGreater (by p) ts us
 
-abbrev pub Skips : Comparison → ℕ → ℕ → ℕ → ℕ → ℕ → ℕ → Type 0
-Skips p n k j m a b = (k ≤ a) × (j ≤ b) × (2 * a ≤ room p) × (2 * b ≤ room p)
-    × ((ts us : Terms) → Stand p n k ts → Stand p n j us → SameFirst p m a b ts us)
+abbrev pub Skips : Comparison → Parts → Parts → Parts → Parts → Type 0
+Skips p m n a b = (m.start ≤ a.start) × (n.start ≤ b.start)
+    × ((ts us : Terms) → AllOnLeft p m ts → AllOnRight p n us → SameFirst p a b ts us)
 
 -- where the first terms stand that differ
-abbrev pub DifferAt : Comparison → ℕ → ℕ → ℕ → Maybe (ℕ × ℕ) → Type 0
-DifferAt p n k j (Some q) = (k ≤ q.0) × (j ≤ q.1) × (2 * q.0 ≤ room p) × (2 * q.1 ≤ room p)
-    × ((r : Bool) → Compares p q.0 q.1 r → (ts us : Terms) → Stand p n k ts → Stand p n j us →
-    Tells r (FirstGreater (by p) ts us))
-DifferAt p n k j None = (ts us : Terms) → Stand p n k ts → Stand p n j us → FirstGreater (by p) ts us → ⊥
+abbrev pub DifferAt : Comparison → Parts → Parts → Maybe (ℕ × ℕ) → Type 0
+DifferAt p m n (Some q) = (m.start ≤ q.0) × (n.start ≤ q.1)
+    × ((r : Bool) → Compares p q.0 q.1 r → (ts us : Terms) → AllOnLeft p m ts → AllOnRight p n us → Tells r (FirstGreater (by p) ts us))
+DifferAt p m n None = (ts us : Terms) → AllOnLeft p m ts → AllOnRight p n us → FirstGreater (by p) ts us → ⊥
 
 -- a sign of higher rank, or the same sign with greater first parts that differ; or not
 abbrev pub Before : Rank → ℕ → ℕ → Terms → Terms → Type 0
 Before rk f g ts us = (rk g < rk f) ⊎ ((f ≡ g) × FirstGreater rk ts us)
 
-abbrev pub Precedes : Comparison → ℕ → ℕ → ℕ → ℕ → ℕ → Bool → Type 0
-Precedes p f g n k j r = (m : ℕ) (ts us : Terms) → Stand p n k ts → Stand p m j us → (f ≡ g → m ≡ n) → Tells r (Before (by p) f g ts us)
+abbrev pub Precedes : Comparison → Head → Head → Bool → Type 0
+Precedes p f g r = (ts us : Terms) → AllOnLeft p f.parts ts → AllOnRight p g.parts us → Tells r (Before (by p) f.sign g.sign ts us)
 
 -- each remembered answer is right
 abbrev pub Truthful : Comparison → Table → Type 0

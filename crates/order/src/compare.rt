@@ -1,15 +1,16 @@
 // The lexicographic path order on the terms of a rule.
-ghost use Rattle.std.specs.Prelude.{◌+◌, ◌*◌, ◌≤◌};
-ghost use Rattle.order.specs.Comparing.{room, Compares, Covers, Exceeds, Precedes, Truthful};
+ghost use Rattle.order.specs.Comparing.{Compares, Covers, Exceeds, Precedes, Truthful};
 
 use crate::table::Table;
-use crate::terms::{Comparison, Head};
+use crate::terms::{Comparison, Head, Parts};
 
+// Stays recursion in a cycle: the order is defined so, and goes no deeper than a side's 32 symbols.
+// Stays in each contract, that the table is truthful: in one struct with it each would have to say instead that the sides stay.
 impl Comparison<'_> {
-    // Whether the term at symbol k is greater than the one at symbol j, by the table if it is known there.
+    // Whether the term at place k is greater than the one at place j, by the table if it is known there.
     #[cycle(all_less_compare_greater_precedes_some_at_least)]
     pub fn greater(&self, table: &mut Table, k: usize, j: usize) -> bool
-        requires { (2 * k ≤ room self.now) × ((2 * j ≤ room self.now) × (Truthful self.now table.old)) }
+        requires { Truthful self.now table.old }
         ensures is { Compares self.now k j result }
         ensures kept { Truthful self.now table.new }
     {
@@ -24,79 +25,64 @@ impl Comparison<'_> {
     // By a part that is the other or greater; else by the sign or the first parts that differ, if it is greater than each part.
     #[cycle(all_less_compare_greater_precedes_some_at_least)]
     fn compare(&self, table: &mut Table, k: usize, j: usize) -> bool
-        requires { (2 * k ≤ room self.now) × ((2 * j ≤ room self.now) × (Truthful self.now table.old)) }
+        requires { Truthful self.now table.old }
         ensures is { Compares self.now k j result }
         ensures kept { Truthful self.now table.new }
     {
-        let Head::Sign(f, n) = self.head(k) else {
+        let Some(f) = self.head(self.left, k) else {
             return false;
         };
-        if self.some_at_least(table, n, k + 1, j) {
+        if self.some_at_least(table, f.parts, j) {
             return true;
         }
-        let Head::Sign(g, m) = self.head(j) else {
+        let Some(g) = self.head(self.right, j) else {
             return false;
         };
-        if !self.precedes(table, f, g, n, k + 1, j + 1) {
-            return false;
-        }
-        self.all_less(table, k, m, j + 1)
+        self.precedes(table, f, g) && self.all_less(table, k, g.parts)
     }
 
-    // Whether one of the n terms from symbol k on is the one at symbol j, or is greater.
+    // Whether one of the terms on the left is the one at place j, or is greater.
     #[cycle(all_less_compare_greater_precedes_some_at_least)]
-    fn some_at_least(&self, table: &mut Table, n: usize, k: usize, j: usize) -> bool
-        requires { (2 * k ≤ room self.now) × ((2 * j ≤ room self.now) × (Truthful self.now table.old)) }
-        ensures is { Covers self.now n k j result }
+    fn some_at_least(&self, table: &mut Table, terms: Parts, j: usize) -> bool
+        requires { Truthful self.now table.old }
+        ensures is { Covers self.now terms j result }
         ensures kept { Truthful self.now table.new }
     {
-        if n == 0 {
-            return false;
-        }
-        let Some(next) = self.end(k) else {
+        let Some(rest) = self.rest(self.left, terms) else {
             return false;
         };
-        if self.same(k, j) {
-            return true;
-        }
-        if self.greater(table, k, j) {
-            return true;
-        }
-        self.some_at_least(table, n - 1, next, j)
+        self.same(terms.start, j)
+            || self.greater(table, terms.start, j)
+            || self.some_at_least(table, rest, j)
     }
 
-    // Whether the term at symbol k is greater than each of the n terms from symbol j on.
+    // Whether the term at place k is greater than each of the terms on the right.
     #[cycle(all_less_compare_greater_precedes_some_at_least)]
-    fn all_less(&self, table: &mut Table, k: usize, n: usize, j: usize) -> bool
-        requires { (2 * k ≤ room self.now) × ((2 * j ≤ room self.now) × (Truthful self.now table.old)) }
-        ensures is { Exceeds self.now k n j result }
+    fn all_less(&self, table: &mut Table, k: usize, terms: Parts) -> bool
+        requires { Truthful self.now table.old }
+        ensures is { Exceeds self.now k terms result }
         ensures kept { Truthful self.now table.new }
     {
-        if n == 0 {
-            return true;
-        }
-        let Some(next) = self.end(j) else {
+        let Some(rest) = self.rest(self.right, terms) else {
             return true;
         };
-        if !self.greater(table, k, j) {
-            return false;
-        }
-        self.all_less(table, k, n - 1, next)
+        self.greater(table, k, terms.start) && self.all_less(table, k, rest)
     }
 
-    // Whether sign f with the n parts from symbol k on comes before sign g with those from symbol j on: by its rank, or if they are
-    // the same sign by the first parts that differ.
+    // Whether a head on the left comes before one on the right: by its rank, or if they are the same sign by the first parts that
+    // differ.
     #[cycle(all_less_compare_greater_precedes_some_at_least)]
-    fn precedes(&self, table: &mut Table, f: u32, g: u32, n: usize, k: usize, j: usize) -> bool
-        requires { (2 * k ≤ room self.now) × ((2 * j ≤ room self.now) × (Truthful self.now table.old)) }
-        ensures is { Precedes self.now f g n k j result }
+    fn precedes(&self, table: &mut Table, f: Head, g: Head) -> bool
+        requires { Truthful self.now table.old }
+        ensures is { Precedes self.now f g result }
         ensures kept { Truthful self.now table.new }
     {
-        if f != g {
-            return self.rank(f) > self.rank(g);
+        if f.sign != g.sign {
+            return self.rank(f.sign) > self.rank(g.sign);
         }
-        match self.first_difference(n, k, j) {
-            Some((a, b)) => self.greater(table, a, b),
+        // Stays a match: in its place a closure would call back into the cycle.
+        match self.first_difference(f.parts, g.parts) {
+            Some((k, j)) => self.greater(table, k, j),
             None => false,
         }
     }

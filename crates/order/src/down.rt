@@ -2,9 +2,7 @@
 ghost use Rattle.std.specs.Prelude.{◌<◌, length};
 ghost use Rattle.rewriting.specs.Answers.{Tells};
 ghost use Rattle.books.specs.Books.{told};
-ghost use Rattle.books.specs.Books.{SoundBook};
-ghost use Rattle.order.specs.Downward.{GoesDown};
-ghost use Rattle.order.specs.Downward.{FirstUp};
+ghost use Rattle.order.specs.Downward.{GoesDown, FirstUp};
 
 use crate::table::Table;
 use crate::terms::Comparison;
@@ -12,26 +10,23 @@ use books::Book;
 
 // Whether rule i goes down: its left side is greater than its right side by the book's ranks.
 pub fn goes_down(book: &Book, i: usize) -> bool
-    requires { (SoundBook book.now) × (i < length (told book.now).rules) }
+    requires { i < length (told book.now).rules }
     ensures { Tells result (GoesDown book.now i) }
 {
-    let sides = book.rule(i);
-    let left = sides.left;
-    let signs = book.layout.signs();
     let comparison = Comparison {
-        words: &book.words[left..],
-        parts: &book.words[1..1 + signs],
-        ranks: &book.words[1 + signs..1 + 2 * signs],
+        left: book.left(i),
+        right: book.right(i),
+        parts: book.parts(),
+        ranks: book.ranks(),
     };
-    let mut table = Table::new();
-    comparison.greater(&mut table, 0, (sides.right - left) / 2)
+    comparison.greater(&mut Table::new(), 0, 0)
 }
 
 // The number of the first rule that does not go down.
 pub fn first_up(book: &Book) -> Option<usize>
-    requires { SoundBook book.now }
     ensures { FirstUp book.now result }
 {
+    // Stays a labelled loop with a value: the project keeps this form here.
     let mut i = 0usize;
     'rules: loop {
         if i >= book.layout.rules() {

@@ -1,37 +1,33 @@
-// Answers for pairs of positions, so that none is looked for twice.
+// Answers for pairs of places, so that none is looked for twice.
 ghost use Rattle.std.specs.Prelude.{◌≡◌, replicate, None};
 ghost use Rattle.order.specs.Tables.{Noted, Recalled};
 
-// For each two of 64 positions whether the term at the first is greater, if it is known.
+// For each of 64 places on the left and of 64 on the right whether the term at the first is greater, if it is known.
 #[derive(Clone, Copy)]
 pub struct Table {
-    answers: [Option<bool>; 4096],
+    answers: [[Option<bool>; 64]; 64],
 }
 
 impl Table {
     pub fn new() -> Table
-        ensures { result.answers ≡ replicate 4096 None }
+        ensures { result.answers ≡ replicate 64 (replicate 64 None) }
     {
         Table {
-            answers: [None; 4096],
+            answers: [[None; 64]; 64],
         }
     }
 
     pub fn get(&self, k: usize, j: usize) -> Option<bool>
         ensures { Recalled self.now k j result }
     {
-        if k < 64 && j < 64 {
-            self.answers[64 * k + j]
-        } else {
-            None
-        }
+        *self.answers.get(k)?.get(j)?
     }
 
     pub fn set(&mut self, k: usize, j: usize, answer: bool)
         ensures { Noted self.old k j answer self.new }
     {
         if k < 64 && j < 64 {
-            self.answers[64 * k + j] = Some(answer);
+            self.answers[k][j] = Some(answer);
         }
     }
 }

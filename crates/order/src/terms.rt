@@ -1,120 +1,105 @@
-// The terms that stand in a rule's words, each by the number of its first symbol.
-ghost use Rattle.std.specs.Prelude.{◌≡◌, ◌+◌, ◌*◌, ◌<◌, ◌≤◌, slice_index};
+// The terms that stand in a rule's sides, each by the place of its first word.
+ghost use Rattle.std.specs.Prelude.{◌≡◌, length, slice_index, MatchOption};
 ghost use Rattle.rewriting.specs.Order.{rank};
-ghost use Rattle.order.specs.Comparing.{room, Headed, Ends, Equates};
-ghost use Rattle.order.specs.Comparing.{DifferAt};
+ghost use Rattle.rewriting.specs.Terms.{Term};
+ghost use Rattle.books.specs.Rows.{row};
+ghost use Rattle.order.specs.Comparing.{Stands, Headed, Splits, Equates, DifferAt};
 
 use books::words::{Letters, Symbol, symbol_at, term_end};
 
-// The words from a rule's left side on, the right side behind it; of each sign how many parts it has, and its rank.
+// The words of a rule's left side and of its right; of each sign how many parts it has, and its rank.
 #[derive(Drop)]
 pub struct Comparison<'a> {
-    pub words: &'a [u32],
+    pub left: &'a [u32],
+    pub right: &'a [u32],
     pub parts: &'a [u32],
     pub ranks: &'a [u32],
 }
 
-// What stands first in a term: a letter, or a sign and how many parts it has.
+// Some terms, one after the other: how many, and the place where the first starts.
 #[derive(Clone, Copy)]
-pub enum Head {
-    Letter,
-    Sign(u32, usize),
+pub struct Parts {
+    pub count: usize,
+    pub start: usize,
+}
+
+// The sign that stands first in a term, and its parts.
+#[derive(Clone, Copy)]
+pub struct Head {
+    pub sign: u32,
+    pub parts: Parts,
 }
 
 impl Comparison<'_> {
     pub fn rank(&self, f: u32) -> u32
         ensures { result ≡ rank self.now.ranks.now f }
     {
-        let f = f as usize;
-        if f < self.ranks.len() {
-            self.ranks[f]
-        } else {
-            0
-        }
+        self.ranks.get(f as usize).copied().unwrap_or(0)
     }
 
     fn arity(&self, f: u32) -> usize
         ensures { result ≡ slice_index self.now.parts.now f }
     {
-        let f = f as usize;
-        if f < self.parts.len() {
-            self.parts[f] as usize
-        } else {
-            0
-        }
+        self.parts.get(f as usize).copied().unwrap_or(0) as usize
     }
 
-    // What stands at symbol k.
-    pub fn head(&self, k: usize) -> Head
-        requires { 2 * k ≤ room self.now }
-        ensures { Headed self.now k result }
+    // The head of the term at place k, or none if it is a letter.
+    pub fn head(&self, words: &[u32], k: usize) -> Option<Head>
+        ensures { Headed self.now.parts.now words.now k result }
     {
-        let Some(symbol) = symbol_at(self.words, 2 * k) else {
-            return Head::Letter;
-        };
-        match symbol {
-            Symbol::Letter(_) => Head::Letter,
-            Symbol::Sign(f) => Head::Sign(f, self.arity(f)),
+        match symbol_at(words, k)? {
+            Symbol::Letter(_) => None,
+            Symbol::Sign(f) => Some(Head {
+                sign: f,
+                parts: Parts {
+                    count: self.arity(f),
+                    start: k + 2,
+                },
+            }),
         }
     }
 
-    // Where the term ends that starts with symbol k.
-    pub fn end(&self, k: usize) -> Option<usize>
-        requires { 2 * k ≤ room self.now }
-        ensures { Ends self.now k result }
+    // The terms behind the first one, if there is a first one.
+    pub fn rest(&self, words: &[u32], terms: Parts) -> Option<Parts>
+        ensures { Splits self.now.parts.now words.now terms result }
     {
-        match term_end(Letters::Small, self.parts, self.words, 2 * k) {
-            Some(z) => Some(z / 2),
-            None => None,
-        }
+        let count = terms.count.checked_sub(1)?;
+        let start = term_end(Letters::Small, self.parts, words, terms.start)?;
+        Some(Parts { count, start })
     }
 
-    // Whether the terms at symbols k and j are the same.
+    // The words of the term at place k.
+    fn term<'a>(&self, words: &'a [u32], k: usize) -> Option<&'a [u32]>
+        ensures { MatchOption result ((t : Term) → Stands self.now.parts.now words.now k t → ⊥)
+            (λ ws. (t : Term) → Stands self.now.parts.now words.now k t → ws.now ≡ row t) }
+    {
+        let end = term_end(Letters::Small, self.parts, words, k)?;
+        Some(&words[k..end])
+    }
+
+    // Whether the terms at place k on the left and at place j on the right are the same.
     pub fn same(&self, k: usize, j: usize) -> bool
-        requires { (2 * k ≤ room self.now) × (2 * j ≤ room self.now) }
         ensures { Equates self.now k j result }
     {
-        let Some(m) = self.end(k) else {
-            return false;
-        };
-        let Some(n) = self.end(j) else {
-            return false;
-        };
-        if m - k != n - j {
-            return false;
-        }
-        for i in 0..2 * (m - k) {
-            if self.words[2 * k + i] != self.words[2 * j + i] {
-                return false;
-            }
-        }
-        true
+        self.term(self.left, k) == self.term(self.right, j)
     }
 
-    // Of n terms from symbol k on and n from symbol j on, where the first stand that differ.
-    pub fn first_difference(&self, n: usize, k: usize, j: usize) -> Option<(usize, usize)>
-        requires { (2 * k ≤ room self.now) × (2 * j ≤ room self.now) }
-        ensures { DifferAt self.now n k j result }
+    // Of some terms on the left and some on the right, where the first stand that differ.
+    pub fn first_difference(&self, lefts: Parts, rights: Parts) -> Option<(usize, usize)>
+        ensures { DifferAt self.now lefts rights result }
     {
-        let mut left = n;
-        let mut a = k;
-        let mut b = j;
+        // Stays a loop that yields by `break`: the project keeps this form here.
+        let mut a = lefts;
+        let mut b = rights;
         loop {
-            if left == 0 {
-                break None;
-            }
-            if !self.same(a, b) {
-                break Some((a, b));
-            }
-            let Some(c) = self.end(a) else {
+            let (Some(c), Some(d)) = (self.rest(self.left, a), self.rest(self.right, b)) else {
                 break None;
             };
-            let Some(d) = self.end(b) else {
-                break None;
-            };
+            if !self.same(a.start, b.start) {
+                break Some((a.start, b.start));
+            }
             a = c;
             b = d;
-            left -= 1;
         }
     }
 }

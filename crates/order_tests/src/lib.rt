@@ -3,7 +3,7 @@
 
 #[cfg(test)]
 mod tests {
-    use books::{Book, read_book};
+    use books::Book;
     use order::first_up;
     use std::alloc::{AllocError, Global};
     use std::test::Fail;
@@ -32,10 +32,7 @@ mod tests {
 
     // The first rule that does not go down, if the words are a book.
     fn up(words: &[u32]) -> Option<Option<usize>> {
-        match read_book(words) {
-            Some(layout) => Some(first_up(&Book { words, layout })),
-            None => None,
-        }
+        Book::read(words).map(|book| first_up(&book))
     }
 
     #[test]

@@ -1,9 +1,10 @@
 -- The terms before are the same.
+use Rattle.std.proofs.Common.{◌-◌, length}
 use Rattle.order.specs.Comparing.{Skips}
 use Rattle.order.proofs.terms.Comparison.first_difference.Given as goal
 
-abbrev pub invariant-loop-left : goal.invariant-loop-left
-invariant-loop-left l = Skips l.self l.n l.k l.j l.left l.a l.b
+abbrev pub invariant-loop-c : goal.invariant-loop-c
+invariant-loop-c l = Skips l.self l.fn.lefts l.fn.rights l.a l.b
 
-abbrev pub decreases-loop-left : goal.decreases-loop-left
-decreases-loop-left l = l.left
+abbrev pub decreases-loop-c : goal.decreases-loop-c
+decreases-loop-c l = length l.self.left.now - l.a.start
