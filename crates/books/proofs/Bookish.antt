@@ -1,5 +1,5 @@
 -- Rules and equations by the book's words.
-use Rattle.std.proofs.Common.{◌≡◌, ℕ, zero, suc, ◌+◌, ◌-◌, ◌*◌, ◌<◌, ◌≤◌, List, [], ◌∷◌, ◌++◌, length, get_or, take, drop, sym, refl, ap}
+use Rattle.std.proofs.Common.{◌≡◌, ℕ, ◌+◌, ◌-◌, ◌*◌, ◌<◌, List, length, get_or, take, drop, sym, ap}
 use Rattle.std.proofs.Common.{◌∙◌, ap₂, subst₂, arith}
 use mathlib.Core.Option.{some}
 use lib.Seq.{take-append_seam}
@@ -7,11 +7,10 @@ use Rattle.rewriting.specs.Terms.{nth, Term}
 use Rattle.rewriting.specs.Rules.{Eq}
 use Rattle.rewriting.specs.Books.{Sides}
 use Rattle.books.specs.Layouts.{sides, sides_of}
-use Rattle.books.specs.Reading.{TermAt, signs_of}
-use Rattle.books.specs.Rows.{row, rowEs, rowB}
-use Rattle.books.proofs.Elements.{nth_getD, nth_below, nth_is}
+use Rattle.books.specs.Reading.{TermAt}
+use Rattle.books.specs.Rows.{row}
+use Rattle.books.proofs.Elements.{nth_getD}
 use Rattle.books.proofs.Glueing.{row_length}
-use Rattle.books.proofs.Heads.{head_of}
 use Rattle.books.proofs.Sided.{nth_left, nth_right, nth_behind, nth_front}
 use Rattle.books.specs.declared.row.Book.{Book}
 use Rattle.books.specs.Books.{told, SoundBook, blank, rule_in, equation_in, RuleAt, EquationAt}
@@ -81,49 +80,7 @@ module _ (k : Book) (sound : SoundBook k) where
           right = h.1;
         }
 
--- the words say how many parts each sign has
-pub record PartsTold (ps ws : List ℕ) : Type 0 where
-  pub within : (f n : ℕ) → nth ps f ≡ some n → 1 + f < length ws
-  pub is : (f n : ℕ) → nth ps f ≡ some n → get_or ws (1 + f) 0 ≡ n
-  pub few : (f n : ℕ) → nth ps f ≡ some n → n ≤ 4
-
-in_front : (xs ys : List ℕ) (i : ℕ) → i < length xs → (i < length (xs ++ ys)) × (get_or (xs ++ ys) i 0 ≡ get_or xs i 0)
-in_front [] ys i l = absurd (omega arith)
-in_front (x ∷ xs) ys zero l = (omega arith, refl)
-in_front (x ∷ xs) ys (suc i) l = let h = in_front xs ys i (omega arith) in (omega (arith, h.0), h.1)
-
-pub parts_told : (k : Book) → SoundBook k → PartsTold (told k).parts k.words.now
-parts_told k s = record {
-  within = λ f n e. omega (arith, (at f n e).0);
-  is = λ f n e. (at f n e).1;
-  few = s.reads.fine.few_parts;
-}
-  where
-    at : (f n : ℕ) → nth (told k).parts f ≡ some n → (1 + f < length k.words.now) × (get_or k.words.now (1 + f) 0 ≡ n)
-    at f n e =
-        let b = told k in
-        let ps = b.parts in
-        let ys = b.ranks ++ (length b.eqs ∷ length b.rules ∷ (rowEs b.eqs ++ rowEs b.rules)) in
-        let h = in_front ps ys f (nth_below ps f n e) in
-        let d = s.reads.is in
-        let z : 1 + f ≡ suc f = omega arith in (
-          omega (arith, h.0, ap length d),
-          ap (λ (v : List ℕ). get_or v (1 + f) 0) (sym d) ∙ ap (λ (i : ℕ). get_or (rowB b) i 0) z ∙ h.1 ∙ nth_is ps f n 0 e,
-        )
-
--- the signature and a side, cut out of the words
-module _ (k : Book) (s : SoundBook k) (n : ℕ) (e : n ≡ k.layout.signs) where
-  signs_are : n ≡ signs_of k.words.now
-  signs_are = e ∙ (s.laid.signs ∙ sym (head_of k.words.now (told k) s.reads).signs)
-
-  pub parts_within : 1 + n ≤ length k.words.now
-  parts_within = omega (arith, signs_are, (head_of k.words.now (told k) s.reads).long)
-
-  pub parts_cut : take (1 + n - 1) (drop 1 k.words.now) ≡ (told k).parts
-  parts_cut =
-      let d : 1 + n - 1 ≡ signs_of k.words.now = omega (arith, signs_are) in
-      ap (λ (m : ℕ). take m (drop 1 k.words.now)) d ∙ (head_of k.words.now (told k) s.reads).parts
-
+-- a side, cut out of the words
 pub side_cut : (ws : List ℕ) (a z : ℕ) (t : Term) → TermAt ws a z t → take (z - a) (drop a ws) ≡ row t
 side_cut ws a z t w =
     let d : z - a ≡ length (row t) = omega (arith, w.long, row_length t) in

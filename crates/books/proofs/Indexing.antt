@@ -23,17 +23,6 @@ module _ (t : ℕ → ℕ) (n m : ℕ) where
   one_before f (Some i) ne h = (omega (arith, h.0), h.1, h.2, λ j a b e. h.3 j (past f ne j e a (ℕ_discrete j m)) b e)
 
   module _ (F N : List (Maybe ℕ)) (x : IndexedFrom t n (m + 1) F N) where
-    -- a rule that begins with no sign
-    pub index_pass : 32 ≤ t m → IndexedFrom t n m F N
-    index_pass p = record {
-      first = λ f l. one_before f (get_or F f None) (λ e. omega (arith, e)) (x.first f l);
-      next = λ i a b l. x.next i (apart i a l (ℕ_discrete i m)) b l;
-    }
-      where
-        apart : (i : ℕ) → m ≤ i → t i < 32 → Dec (i ≡ m) → m + 1 ≤ i
-        apart i a l (yes d) = absurd (omega (arith, ap t d))
-        apart i a l (no d) = omega arith
-
     -- a rule with a sign: it is the first with it, and the one that was is next
     pub index_more : t m < 32 → m < n → length F ≡ 32 → m < length N →
         IndexedFrom t n m (set F (t m) (Some m)) (set N m (get_or F (t m) None))

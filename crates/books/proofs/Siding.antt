@@ -1,7 +1,8 @@
 -- Sides, one after the other: what a loop over them keeps, and why it stops.
-use Rattle.std.proofs.Common.{◌≡◌, ℕ, zero, suc, ◌+◌, ◌<◌, ◌≤◌, ◌≢◌, ◌⊎◌, List, [], ◌∷◌, ◌++◌, length, get_or, drop, set, None, sym, refl, ap, ◌∙◌}
+use Rattle.std.proofs.Common.{◌≡◌, ℕ, zero, suc, ◌+◌, ◌<◌, ◌≤◌, ◌≢◌, ◌⊎◌, List, ◌∷◌, ◌++◌, length, get_or, drop, set, None, sym, refl, ap, ◌∙◌}
 use Rattle.std.proofs.Common.{subst, inl, inr, append_assoc, append-nil, arith, length-drop, get_or-set_other, get_or-set_same}
 use Rattle.std.proofs.Common.{Bool, true, false, eqb, eqb-true}
+use Rattle.std.proofs.lemmas.List.{set-append_left}
 use Rattle.std.specs.Bool.{then_some}
 use borrow.Author.Tests.{eqb-false}
 use mathlib.Core.Option.{some}
@@ -33,14 +34,9 @@ nth_last (and1 v ts) t u zero e = inl (omega arith, e)
 nth_last (and1 v ts) t u (suc i) e = elim (nth_last ts t u i e)
     [ inl p ↦ inl (omega (arith, p.0), p.1) | inr p ↦ inr (omega (arith, p.0), p.1) ]
 
--- what is written behind the first of a list, in front of others
-set_front : (xs ys : List ℕ) (i e : ℕ) → i < length xs → set (xs ++ ys) i e ≡ set xs i e ++ ys
-set_front [] ys i e h = absurd (omega arith)
-set_front (x ∷ xs) ys zero e h = refl
-set_front (x ∷ xs) ys (suc i) e h = ap (λ (zs : List ℕ). x ∷ zs) (set_front xs ys i e (omega arith))
-
+-- what is written in a list that stands behind one element and in front of others
 pub set_behind : (x : ℕ) (xs ys : List ℕ) (i e : ℕ) → i < length xs → set (x ∷ (xs ++ ys)) (i + 1) e ≡ x ∷ (set xs i e ++ ys)
-set_behind x xs ys i e h = let d : i + 1 ≡ suc i = omega arith in rw d (ap (λ (zs : List ℕ). x ∷ zs) (set_front xs ys i e h))
+set_behind x xs ys i e h = let d : i + 1 ≡ suc i = omega arith in rw d (ap (λ (zs : List ℕ). x ∷ zs) (set-append_left xs ys i e h))
 
 module _ (ps ws : List ℕ) where
   pub sides_none : (a : ℕ) (starts : List ℕ) → a ≤ length ws → get_or starts 0 0 ≡ a → SidesAt ps ws 0 a a starts

@@ -9,7 +9,7 @@ use Rattle.books.specs.Rows.{rows, rowTerms, rowWays, Reads, AllFit, WaysFit}
 use Rattle.books.specs.Reading.{Allowed, read, terms_of, others, paired}
 use Rattle.books.specs.Reading.{book_of, parts_of, eqs_of, rules_of, body_of}
 use Rattle.books.specs.Layouts.{sides, sides_of, listed}
-use Rattle.books.specs.Theorems.{OneBook, TheBook, OneTerm, OneWays, OneReading, SumRow}
+use Rattle.books.specs.Theorems.{OneBook, TheBook, OneTerm, OneWays, OneReading}
 use Rattle.books.specs.declared.words.Letters.{Letters}
 use Rattle.books.specs.declared.words.Letters.TheVariants.{Small, Any}
 use Rattle.books.proofs.Glueing.{glue_none, others_glue}
@@ -114,6 +114,3 @@ one_ways ps h ws vs f g e d = ways_once ps ws vs f g (e ∙ sym d)
 
 pub one_reading_lem : OneReading
 one_reading_lem = record { book = one_book; the_book = the_book; term = one_term; ways = one_ways }
-
-pub sum_row : SumRow
-sum_row = refl

@@ -1,7 +1,8 @@
 -- Words that are a term; ways in a row: what a loop over the rules keeps, and why it stops.
 use Rattle.std.proofs.Common.{◌≡◌, ℕ, ◌+◌, ◌-◌, ◌<◌, ◌≤◌, Bool, eqb, Option as Maybe, ◌↔◌, List, [], ◌∷◌, ◌++◌, length, get_or, drop, Some, None, sym, refl}
 use Rattle.std.proofs.Common.{ap, ◌∙◌, ap₂, append-nil, add-one, arith, length-drop, drop-cons, eqb-true}
-use Rattle.std.specs.Option.{option_eq}
+use Rattle.std.proofs.Common.{false}
+use Rattle.std.specs.Option.{MatchOption}
 use borrow.Author.Tests.{eqb-false, clash}
 use lib.Seq.{drop-length}
 use Rattle.rewriting.specs.Answers.{Tells}
@@ -21,7 +22,7 @@ module _ (ps ws : List ℕ) where
       (simp append-nil (sym at.written ∙ sym w.written))).1 in
       omega (arith, ap length q, length-drop z ws, at.within)
 
-  pub whole_words : (o : Maybe ℕ) (b : Bool) → TermEnd Small ps ws 0 o → b ≡ option_eq eqb o (Some (length ws)) →
+  pub whole_words : (o : Maybe ℕ) (b : Bool) → TermEnd Small ps ws 0 o → MatchOption o (b ≡ false) (λ z. b ≡ eqb z (length ws)) →
       Tells b ((t : Term) × Of ps ws t)
   whole_words (Some z) b p q = rw q (record {
     holds = λ e. (

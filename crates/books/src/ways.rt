@@ -10,7 +10,7 @@ use crate::words::{Letters, term_end, terms_end};
 pub fn is_term(parts: &[u32], words: &[u32]) -> bool
     ensures { Tells result ((t : Term) × Of parts.now words.now t) }
 {
-    term_end(Letters::Small, parts, words, 0) == Some(words.len())
+    term_end(Letters::Small, parts, words, 0).is_some_and(|end| end == words.len())
 }
 
 // Where as many ways end as there are rules, of terms of the signature with any letters.
