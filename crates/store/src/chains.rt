@@ -6,7 +6,7 @@ ghost use Rattle.store.specs.Keys.{FitsIn};
 ghost use Rattle.store.specs.Chains.{mix_of, key_bucket, Chains, Found, Holds, Pushed, OneMore};
 
 use crate::keys::Key;
-use crate::slots::{HEAD, LAST, LINK, NOTE, arity, get, kind, part, put, put_slot};
+use crate::slots::{LAST, LINK, NOTE, arity, get, kind, kind_at, part, put, put_slot};
 use crate::types::Store;
 
 const WORD_BITS: usize = 32;
@@ -39,15 +39,9 @@ fn holds(ws: &[u32], i: usize, key: &Key) -> bool
     ensures yes { result ≡ true → Holds ws.now i key.now }
     ensures no { result ≡ false → Holds ws.now i key.now → ⊥ }
 {
-    if kind(get(ws, i, HEAD)) != kind(key.head) {
-        return false;
-    }
-    for (k, &p) in key.parts[..arity(kind(key.head))].iter().enumerate() {
-        if part(ws, i, k) != p {
-            return false;
-        }
-    }
-    true
+    let kind = kind(key.head);
+    let parts = &key.parts[..arity(kind)];
+    kind_at(ws, i) == kind && parts.iter().enumerate().all(|(k, &p)| part(ws, i, k) == p)
 }
 
 impl Store<'_> {

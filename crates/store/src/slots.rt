@@ -1,7 +1,7 @@
 // Slots in lent words: reading and writing their cells. A slot of 16 words is one cache line.
 ghost use Rattle.std.specs.Prelude.{◌≡◌, ◌+◌, ◌-◌, ◌*◌, ◌<◌, ◌≤◌, false, length};
 ghost use Rattle.store.specs.Cells.{cell, HasSlot, CellPut, Cleared};
-ghost use Rattle.store.specs.Slots.{kind_of, arity_of, arity_at, part_at, tag_of, symbol_of, flag_of, PartsWritten};
+ghost use Rattle.store.specs.Slots.{kind_of, kind_at, arity_of, arity_at, part_at, tag_of, symbol_of, flag_of, PartsWritten};
 ghost use Rattle.store.specs.Keys.{SlotWritten};
 
 use crate::keys::Key;
@@ -70,12 +70,19 @@ pub fn arity(kind: usize) -> usize
     (kind / WORD).saturating_sub(1)
 }
 
-// How many parts slot i has.
+// The kind that slot i has, and how many parts.
+pub fn kind_at(ws: &[u32], i: usize) -> usize
+    requires { HasSlot ws.now i }
+    ensures { result ≡ kind_at ws.now i }
+{
+    kind(get(ws, i, HEAD))
+}
+
 pub fn arity_at(ws: &[u32], i: usize) -> usize
     requires { HasSlot ws.now i }
     ensures { result ≡ arity_at ws.now i }
 {
-    arity(kind(get(ws, i, HEAD)))
+    arity(kind_at(ws, i))
 }
 
 // The symbol of a kind.
