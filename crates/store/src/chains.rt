@@ -14,6 +14,7 @@ const WORD_BITS: usize = 32;
 // 2^64 over the golden ratio: multiples of it spread well over the upper bits.
 const GOLDEN: usize = 11400714819323198485;
 
+#[tactic(auto, unfolding(crate::specs::Chains::mix_of))]
 fn mix(h: usize, x: usize) -> usize
     ensures { result ≡ mix_of h x }
 {
@@ -61,7 +62,7 @@ impl Store<'_> {
     }
 }
 
-// What follows stays over words, a number of slots and a mask: between these writes the words are no store.
+// Stays over words, a count and a mask, in what follows: between these writes the words are no store.
 
 // Writes a key into slot n, at the end of its bucket.
 pub fn push(ws: &mut [u32], n: usize, mask: usize, key: &Key)

@@ -220,6 +220,7 @@ impl Store<'_> {
     }
 
     // The place of the sign f with the first n places as parts, below the limit.
+    // Stays an array and how many of it count: a slot has cells for four parts, and all four are written.
     pub fn share_sign(&mut self, f: u32, parts: [Place; 4], n: usize) -> Place
         requires { (n ≤ 4) × ((PartsInside self.old parts n) × (self.old.count < self.old.limit)) }
         ensures shared { SignShared self.old f parts n self.new result }

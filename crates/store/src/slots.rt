@@ -24,6 +24,7 @@ pub const NOTE: usize = 7;
 pub const FLAG: usize = 8 * WORD;
 
 // Cell k of slot i.
+#[tactic(auto, unfolding(crate::specs::Cells::cell))]
 pub fn get(ws: &[u32], i: usize, k: usize) -> usize
     requires { (HasSlot ws.now i) × (k < 8) }
     ensures { result ≡ cell ws.now i k }
@@ -47,6 +48,7 @@ pub fn part(ws: &[u32], i: usize, k: usize) -> usize
 }
 
 // Clears cell k of the first n slots.
+// Stays a loop over numbers: the cells lie sixteen words apart.
 pub fn clear(ws: &mut [u32], n: usize, k: usize)
     requires { (16 * n ≤ length ws.old) × (k < 8) }
     ensures { Cleared ws.old n k ws.new }
@@ -57,6 +59,7 @@ pub fn clear(ws: &mut [u32], n: usize, k: usize)
 }
 
 // The kind in a head.
+#[tactic(auto, unfolding(crate::specs::Slots::kind_of))]
 pub fn kind(head: usize) -> usize
     ensures { result ≡ kind_of head }
 {
@@ -64,6 +67,7 @@ pub fn kind(head: usize) -> usize
 }
 
 // How many parts a kind has: a letter none.
+#[tactic(auto, unfolding(crate::specs::Slots::tag_of))]
 pub fn arity(kind: usize) -> usize
     ensures { result ≡ arity_of kind }
 {
@@ -86,6 +90,7 @@ pub fn arity_at(ws: &[u32], i: usize) -> usize
 }
 
 // The symbol of a kind.
+#[tactic(auto, unfolding(crate::specs::Slots::symbol_of))]
 pub fn symbol(kind: usize) -> u32
     ensures { result ≡ symbol_of kind }
 {

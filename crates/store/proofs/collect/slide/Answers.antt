@@ -5,9 +5,6 @@ use Rattle.store.proofs.Chaining.{chains_none}
 use Rattle.store.proofs.collect.slide.Goals as goal
 use Rattle.store.proofs.collect.slide.Goals.{then-get-ne0, else-get-ne0}
 
-pub loop-i-init : goal.loop-i-init
-loop-i-init c = (slide_start _, chains_none c.args.mask c.args.ws.now (omega arith) c.requires.by_index)
-
 pub loop-i-preserved : goal.loop-i-preserved
 loop-i-preserved c =
     let vs = c.args.ws.now in let i = c.loop-i.i in let ws = c.loop-i.ws in let n = c.loop-i.n in
