@@ -1,7 +1,6 @@
 -- A marked slot moves down, and another is passed over.
 use Rattle.std.proofs.Common.{◌∙◌, arith}
-use Rattle.store.proofs.Sliding.{slide_start, slide_skip, slide_step}
-use Rattle.store.proofs.Chaining.{chains_none}
+use Rattle.store.proofs.Sliding.{slide_skip, slide_step}
 use Rattle.store.proofs.collect.slide.Goals as goal
 use Rattle.store.proofs.collect.slide.Goals.{then-get-ne0, else-get-ne0}
 
