@@ -1,6 +1,6 @@
 -- Chains: searching along them, and what keeps them or makes them longer.
 use Rattle.std.proofs.Common.{◌≡◌, ℕ, zero, suc, ◌+◌, ◌-◌, ◌/◌, ◌<◌, ◌≤◌, List, length, get_or, sym, refl, ap, ◌∙◌, subst, ⊎_elim}
-use Rattle.std.proofs.Common.{eq-or-lt_of_le, add-one, arith}
+use Rattle.std.proofs.Common.{eq-or-lt_of_le, arith}
 use lib.Bits.{bit_and}
 use Rattle.store.specs.declared.keys.Key.{Key}
 use Rattle.store.specs.Cells.{cell, HasSlot}
@@ -9,9 +9,6 @@ use Rattle.store.specs.Keys.{FitsIn, Added}
 use Rattle.store.specs.Chains.{mix_of, hash_of, bucket_of, bucket_at, key_bucket, Last, Chains, Holds, Searched, Pushed}
 use Rattle.store.proofs.Cases.{le_or_lt, eq_or, last_or_below}
 use Rattle.store.proofs.Decoding.{alike}
-
-pub hash_more : (h : ℕ) (p : ℕ → ℕ) (k : ℕ) → hash_of h p (k + 1) ≡ mix_of (hash_of h p k) (p k)
-hash_more h p k = ap (hash_of h p) (add-one k)
 
 -- the same kind and parts: the same bucket
 hash_same : (h : ℕ) (p q : ℕ → ℕ) (n : ℕ) → ((m : ℕ) → m < n → p m ≡ q m) → hash_of h p n ≡ hash_of h q n

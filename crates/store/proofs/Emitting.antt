@@ -106,26 +106,6 @@ emitted_size a base q t vs at r ws e =
     let b = length-append (take at ws) (rows (terms_down a r base (r.top - base))) in
     omega (arith, length-take-le at ws e.within, rows_length (terms_down a r base (r.top - base)), row_length t)
 
-pub emitted_none : (a : Store) (q : Roots) (p : ℕ) (s : Roots) (ws : List ℕ) → Inside a q → p < a.count → StackedOn q q.top p s →
-    HasRoots s.cells.now s.top → Emitted a q.top s (held a s q.top) ws 0 s ws
-emitted_none a q p s ws i l x f = record {
-  inside = record {
-    fits = f;
-    low = λ j y. ⊎_elim
-        (λ v. let u : root_in s j ≡ p = ap (λ (o : ℕ). root_in s o) v ∙ x.is in omega arith)
-        (λ v. let u = x.rest j (λ w. omega arith) in let b = i.low j v in omega arith)
-        (last_or_below j q.top (omega (arith, x.top)));
-  };
-  above = omega (arith, x.top);
-  below = record { long = refl; rest = λ j y. refl };
-  within = omega arith;
-  long = refl;
-  is = let z : s.top - q.top ≡ 1 = omega (arith, x.top) in let y : q.top + 0 ≡ q.top = omega arith in
-      ap (λ (o : ℕ). rows (terms_down a s q.top o)) z ∙ append-nil (row (held a s (q.top + 0)))
-      ∙ ap (λ (o : ℕ). row (held a s o)) y;
-  tail = λ j y. refl;
-}
-
 -- one symbol more
 module _ (a : Store) (base : ℕ) (q : Roots) (t : Term) (vs : List ℕ) (at : ℕ) (r : Roots) (ws : List ℕ) (e : Emitted a base q t vs at r ws)
     (more : base < r.top) where

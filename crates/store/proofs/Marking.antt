@@ -3,56 +3,16 @@ use Rattle.std.proofs.Common.{◌≡◌, ℕ, zero, suc, ◌+◌, ◌-◌, ◌<�
 use Rattle.rewriting.specs.Terms.{Term}
 use Rattle.rewriting.specs.Rules.{Part, itself, in_part, Parts, in_this, in_later}
 use Rattle.rewriting.proofs.Different.{part_trans}
-use Rattle.store.specs.Cells.{CellPut, Cleared}
+use Rattle.store.specs.Cells.{Cleared}
 use Rattle.store.specs.Slots.{symbol_of, tag_of, kind_of, kind_at, arity_at, part_at, note_at}
 use Rattle.store.specs.Slots.{parts_by, node_by, node, term_of, Shape, SameNodes}
 use Rattle.store.specs.Marks.{Marked, Reached, from_mark, by_part, MarkedToo, AllMarked, RootsMarked}
-use Rattle.store.proofs.Cases.{eq_or, last_or_below}
+use Rattle.store.proofs.Cases.{eq_or}
 use Rattle.store.proofs.Decoding.{term_is, term_alike, shape_alike, alike}
-
--- marking p 0, p 1, ..
-pub too_start : (p : ℕ → ℕ) (vs : List ℕ) → MarkedToo p 0 vs vs
-too_start p vs = record {
-  nodes = λ j k l. refl;
-  these = λ k l. absurd (omega arith);
-  kept = λ j h. h;
-  rest = λ j l. refl;
-  only = λ j h n. absurd (n h);
-}
-
-pub too_more : (p : ℕ → ℕ) (k q : ℕ) (us vs ws : List ℕ) → MarkedToo p k us vs → q ≡ p k → CellPut vs q 7 1 ws →
-    MarkedToo p (k + 1) us ws
-too_more p k q us vs ws m e s =
-    let here : Marked ws q = (λ z. let one : note_at ws q ≡ 1 = s.is in omega arith) in
-    let elsewhere : (j : ℕ) → (j ≡ q → ⊥) → note_at ws j ≡ note_at vs j = λ j n. s.rest j 7 (omega arith) (λ a b. n a) in
-    let on : (j : ℕ) → Marked vs j → Marked ws j = λ j h z. ⊎_elim
-    (λ a. here (ap (λ (x : ℕ). note_at ws x) (sym a) ∙ z)) (λ n. h (sym (elsewhere j n) ∙ z)) (eq_or j q) in
-    record {
-      nodes = λ j x l. s.rest j x (omega arith) (λ a b. omega arith) ∙ m.nodes j x l;
-      these = λ x h. ⊎_elim
-          (λ a z. here (ap (λ (x : ℕ). note_at ws x) (e ∙ ap p (sym a)) ∙ z))
-          (λ a. on _ (m.these x a))
-          (last_or_below x k h);
-      kept = λ j h. on j (m.kept j h);
-      rest = λ j h. elsewhere j (λ a. h k (omega arith) (sym e ∙ sym a)) ∙ m.rest j (λ x l. h x (omega arith));
-      only = λ j h n. ⊎_elim
-          (λ a. (k, omega arith, sym e ∙ sym a))
-          (λ a. let w = m.only j (λ z. h (elsewhere j a ∙ z)) n in (w.0, omega (arith, w.1), w.2))
-          (eq_or j q);
-    }
 
 -- passing marks on, from the last slot down
 pub mark_start : (c : ℕ) (vs : List ℕ) → AllMarked c c vs vs
 mark_start c vs = record { nodes = λ j k l. refl; kept = λ j h. h; closed = λ i k l m. absurd (omega arith); only = λ j l h. from_mark l h }
-
-pub mark_skip : (c i lo : ℕ) (vs ws : List ℕ) → AllMarked lo c vs ws → lo ≡ i + 1 → note_at ws i ≡ 0 → AllMarked i c vs ws
-mark_skip c i lo vs ws a e z = record {
-  nodes = a.nodes;
-  kept = a.kept;
-  only = a.only;
-  closed = λ j k u v h t. ⊎_elim (λ q. absurd (h (ap (λ (x : ℕ). note_at ws x) (sym q) ∙ z)))
-      (λ q. a.closed j k (omega arith) v h t) (eq-or-lt_of_le u);
-}
 
 pub mark_more : (c i lo : ℕ) (vs ws xs : List ℕ) → Shape vs c → i < c → AllMarked lo c vs ws → lo ≡ i + 1 → Marked ws i →
     MarkedToo (λ k. part_at ws i k) (arity_at ws i) ws xs → AllMarked i c vs xs

@@ -134,22 +134,10 @@ roots_then a b d p q r s t = record {
 pub parts_same : (a b : Store) (q : Roots) → RootsKept a q b q → parts_held b q ≡ parts_held a q
 parts_same a b q r = ap different (listed_same (λ k. held b q k) (λ k. held a q k) q.top r.terms)
 
--- the key gathered from kept roots fits, and has the term that they were to give
+-- the key gathered from kept roots has the term that they were to give
 order_below : (o : Order) (from1 n k : ℕ) → k < n → in_order o from1 n k < from1 + n
 order_below Up from1 n k l = omega arith
 order_below Down from1 n k l = omega arith
-
-pub gathered_fits : (b : Store) (head from1 : ℕ) (r : Roots) (o : Order) (key : Key) → Gathered head r o from1 key →
-    tag_of (kind_of head) ≤ 5 →
-    from1 + arity_of (kind_of head) ≤ r.top → Inside b r → FitsIn key b.count
-gathered_fits b head from1 r o key g t l i =
-    let e : tag_of (kind_of key.head) ≡ tag_of (kind_of head) = ap tag_of (ap kind_of g.same_head) in
-    record {
-      below = λ k x. let m : k < arity_of (kind_of head) = omega arith in let z = g.parts k m in
-          let y = i.low (in_order o from1 (arity_of (kind_of head)) k)
-          (omega (arith, order_below o from1 (arity_of (kind_of head)) k m)) in
-          omega arith;
-    }
 
 pub gathered_term : (a b : Store) (head from1 : ℕ) (q r : Roots) (o : Order) (key : Key) → Gathered head r o from1 key →
     tag_of (kind_of head) ≤ 5 →

@@ -1,5 +1,5 @@
 -- A sign shared by places of its parts; room made for more slots.
-use Rattle.std.proofs.Common.{◌≡◌, ℕ, zero, suc, ◌+◌, ◌-◌, ◌<◌, ◌≤◌, List, [], ◌∷◌, get_or, Some, Ok, Err, Option, Result, sym}
+use Rattle.std.proofs.Common.{◌≡◌, ℕ, ◌+◌, ◌-◌, ◌<◌, ◌≤◌, List, get_or, Some, Ok, Err, Option, Result, sym}
 use Rattle.std.proofs.Common.{refl, ap, ◌∙◌, subst, arith}
 use Rattle.rewriting.specs.Terms.{Term, sign}
 use Rattle.store.specs.declared.types.Store.{Store}
@@ -21,7 +21,8 @@ abbrev zero_place : Place
 zero_place = record { 0 = 0 }
 
 -- the sign with the places of these numbers as parts
-pub sign_of : (a : Store) (head f : ℕ) (ps : List Place) (ns : List ℕ) (n : ℕ) → ((k : ℕ) → k < n → get_or ns k 0 ≡ (get_or ps k zero_place).0) →
+pub sign_of : (a : Store) (head f : ℕ) (ps : List Place) (ns : List ℕ) (n : ℕ) →
+    ((k : ℕ) → k < n → get_or ns k 0 ≡ (get_or ps k zero_place).0) →
     tag_of (kind_of head) ≡ n + 1 → symbol_of (kind_of head) ≡ f →
     node (λ j. term_in a j) (kind_of head) (λ k. get_or ns k 0) ≡ sign f (terms_at a ps n)
 sign_of a head f ps ns n h t s = node_sign (λ j. term_in a j) (kind_of head) (λ k. get_or ns k 0) f n t s

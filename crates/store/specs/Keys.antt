@@ -1,5 +1,5 @@
 -- Keys: what a slot is found by, and how it is written.
-use Rattle.std.specs.Prelude.{◌≡◌, ℕ, ◌+◌, ◌<◌, ◌≤◌, List, slice_index}
+use Rattle.std.specs.Prelude.{◌≡◌, ℕ, ◌<◌, List, slice_index}
 use Rattle.rewriting.specs.Terms.{Term}
 use Rattle.store.specs.declared.keys.Key.{Key}
 use Rattle.store.specs.Cells.{cell}

@@ -43,6 +43,10 @@ pub record KeptOnly (a : Store) (q : Roots) (b : Store) (r : Roots) : Type 0 whe
 abbrev pub root_term : Store → ℕ → Roots → Order → ℕ → Term
 root_term a head r o from1 = node (λ j. term_in a j) (kind_of head) (λ k. root_in r (in_order o from1 (arity_of (kind_of head)) k))
 
+-- the terms of n roots, from one on, in an order
+abbrev pub terms_by : Store → Roots → Order → ℕ → ℕ → Terms
+terms_by a r o from1 n = parts_by (λ j. term_in a j) (λ k. root_in r (in_order o from1 n k)) 0 n
+
 -- the place of a term, or none if the roots' terms have as many different parts as there is room for
 abbrev pub Placed : Store → Roots → Store → Term → Option Place → Type 0
 Placed a q b t (Some p) = (p.0 < b.count) × (term_in b p.0 ≡ t)

@@ -6,7 +6,7 @@ ghost use Rattle.store.specs.Keys.{FitsIn};
 ghost use Rattle.store.specs.Chains.{mix_of, key_bucket, Chains, Found, Holds, Pushed, OneMore};
 
 use crate::keys::Key;
-use crate::slots::{HEAD, LAST, LINK, NOTE, arity, get, kind, part, put, put_slot};
+use crate::slots::{LAST, LINK, NOTE, arity, get, kind, kind_at, part, put, put_slot};
 use crate::types::Store;
 
 const WORD_BITS: usize = 32;
@@ -14,6 +14,7 @@ const WORD_BITS: usize = 32;
 // 2^64 over the golden ratio: multiples of it spread well over the upper bits.
 const GOLDEN: usize = 11400714819323198485;
 
+#[tactic(auto, unfolding(crate::specs::Chains::mix_of))]
 fn mix(h: usize, x: usize) -> usize
     ensures { result ≡ mix_of h x }
 {
@@ -39,15 +40,9 @@ fn holds(ws: &[u32], i: usize, key: &Key) -> bool
     ensures yes { result ≡ true → Holds ws.now i key.now }
     ensures no { result ≡ false → Holds ws.now i key.now → ⊥ }
 {
-    if kind(get(ws, i, HEAD)) != kind(key.head) {
-        return false;
-    }
-    for (k, &p) in key.parts[..arity(kind(key.head))].iter().enumerate() {
-        if part(ws, i, k) != p {
-            return false;
-        }
-    }
-    true
+    let kind = kind(key.head);
+    let parts = &key.parts[..arity(kind)];
+    kind_at(ws, i) == kind && parts.iter().enumerate().all(|(k, &p)| part(ws, i, k) == p)
 }
 
 impl Store<'_> {
@@ -67,7 +62,7 @@ impl Store<'_> {
     }
 }
 
-// What follows stays over words, a number of slots and a mask: between these writes the words are no store.
+// Stays over words, a count and a mask, in what follows: between these writes the words are no store.
 
 // Writes a key into slot n, at the end of its bucket.
 pub fn push(ws: &mut [u32], n: usize, mask: usize, key: &Key)

@@ -1,5 +1,7 @@
 // Collection in place: what the roots reach is marked, then slides down over the rest. Parts stand before what they are parts of, so one
 // pass down marks all, and one pass up moves all.
+// Stays over words, a count and a mask: until all is moved the words are no store.
+// Stays loops over numbers: slots and roots are named by numbers, and each turn reads words that it writes to.
 ghost use Rattle.std.specs.Prelude.{◌≡◌, ℕ, ◌+◌, ◌-◌, ◌*◌, ◌<◌, ◌≤◌, length};
 ghost use Rattle.store.specs.Cells.{HasSlot};
 ghost use Rattle.store.specs.Slots.{kind_at, tag_of, arity_at, part_at, last_at, note_at, Shape, Shared};

@@ -1,11 +1,11 @@
 // Making terms: a term's place is found or added, and a full store is collected first.
 ghost use Rattle.std.specs.Prelude.{◌≡◌, ℕ, ◌+◌, ◌-◌, ◌*◌, ◌/◌, ◌^◌, ◌<◌, ◌≤◌, false, length, Some};
 ghost use Rattle.rewriting.specs.Terms.{letter, sign};
-ghost use Rattle.store.specs.Slots.{kind_of, tag_of, arity_of, flag_of};
+ghost use Rattle.store.specs.Slots.{kind_of, arity_of, flag_of};
 ghost use Rattle.store.specs.Keys.{FitsIn, key_term};
 ghost use Rattle.store.specs.Chains.{Chains, Found};
 ghost use Rattle.store.specs.Stores.{Grown, Carried, Inside, RootsKept, terms_up, terms_down};
-ghost use Rattle.store.specs.Making.{Opened, Interned, KeptOnly, root_term, Placed, Made, Reserved};
+ghost use Rattle.store.specs.Making.{Opened, Interned, KeptOnly, root_term, terms_by, Placed, Made, Reserved};
 ghost use Rattle.store.specs.Making.{PartsInside, SignShared, LetterShared, Emptied};
 
 use crate::chains::add;
@@ -38,18 +38,6 @@ fn empty(ws: &mut [u32], limit: usize) -> usize
     let mask = mask_below(limit);
     clear(ws, mask + 1, LAST);
     mask
-}
-
-impl Plan {
-    fn new(head: usize, from: usize, order: Order) -> Plan
-        requires few { tag_of (kind_of head) ≤ 5 }
-        requires unflagged { flag_of head ≡ false }
-        ensures head { result.head ≡ head }
-        ensures from { result.from ≡ from }
-        ensures order { result.order ≡ order }
-    {
-        Plan { head, from, order }
-    }
 }
 
 impl<'a> Store<'a> {
@@ -161,30 +149,53 @@ impl Store<'_> {
         ensures { Made self.old roots.old roots.old.top (letter x)
             self.new roots.new result }
     {
-        let from = roots.top;
-        self.make(roots, Plan::new(letter_head(x), from, Order::Up))
+        let plan = Plan {
+            head: letter_head(x),
+            from: roots.top,
+            order: Order::Up,
+        };
+        self.make(roots, plan)
     }
 
-    // A sign with the last n roots as parts, in their place. The lowest is the first part.
+    // A sign with the last n roots as parts, in their place.
+    fn make_sign_by(
+        &mut self,
+        roots: &mut Roots,
+        f: u32,
+        n: usize,
+        order: Order,
+    ) -> Result<(), Full>
+        requires { (Inside self.old roots.old) × ((n ≤ 4) × (n ≤ roots.old.top)) }
+        ensures { Made self.old roots.old (roots.old.top - n)
+            (sign f (terms_by self.old roots.old order (roots.old.top - n) n))
+            self.new roots.new result }
+    {
+        let plan = Plan {
+            head: sign_head(f, n),
+            from: roots.top - n,
+            order,
+        };
+        self.make(roots, plan)
+    }
+
+    // The same. The lowest root is the first part.
     pub fn make_sign(&mut self, roots: &mut Roots, f: u32, n: usize) -> Result<(), Full>
         requires { (Inside self.old roots.old) × ((n ≤ 4) × (n ≤ roots.old.top)) }
         ensures { Made self.old roots.old (roots.old.top - n)
             (sign f (terms_up self.old roots.old (roots.old.top - n) n))
             self.new roots.new result }
     {
-        let from = roots.top - n;
-        self.make(roots, Plan::new(sign_head(f, n), from, Order::Up))
+        self.make_sign_by(roots, f, n, Order::Up)
     }
 
-    // The same, with the uppermost root as the first part.
+    // The same. The uppermost root is the first part.
     pub fn make_sign_down(&mut self, roots: &mut Roots, f: u32, n: usize) -> Result<(), Full>
         requires { (Inside self.old roots.old) × ((n ≤ 4) × (n ≤ roots.old.top)) }
         ensures { Made self.old roots.old (roots.old.top - n)
             (sign f (terms_down self.old roots.old (roots.old.top - n) n))
             self.new roots.new result }
     {
-        let from = roots.top - n;
-        self.make(roots, Plan::new(sign_head(f, n), from, Order::Down))
+        self.make_sign_by(roots, f, n, Order::Down)
     }
 
     // Sees to it that n more slots are below the limit, by a collection if need be; refused if what the roots hold leaves no room for them.
@@ -212,14 +223,16 @@ impl Store<'_> {
         requires { self.old.count < self.old.limit }
         ensures { LetterShared self.old x self.new result }
     {
+        let head = letter_head(x);
         let key = Key {
-            head: letter_head(x),
-            parts: [0, 0, 0, 0],
+            head,
+            parts: [0; 4],
         };
         self.intern(&key).unwrap()
     }
 
     // The place of the sign f with the first n places as parts, below the limit.
+    // Stays an array and how many of it count: a slot has cells for four parts, and all four are written.
     pub fn share_sign(&mut self, f: u32, parts: [Place; 4], n: usize) -> Place
         requires { (n ≤ 4) × ((PartsInside self.old parts n) × (self.old.count < self.old.limit)) }
         ensures shared { SignShared self.old f parts n self.new result }

@@ -6,6 +6,7 @@ ghost use Rattle.store.specs.Numbers.{number_in, NumberPut};
 pub const WORD: usize = 4294967296;
 
 // The number at a place of the words.
+#[tactic(auto, unfolding(crate::specs::Numbers::number_in))]
 pub fn number_at(words: &[u32], at: usize) -> usize
     requires { at + 2 ≤ length words.now }
     ensures { result ≡ number_in words.now at }

@@ -11,6 +11,7 @@ use crate::types::{Full, Order, Place, Plan, Roots};
 use std::array;
 
 // Root k.
+#[tactic(auto, unfolding(crate::specs::Roots::root_at))]
 pub fn root(cells: &[u32], k: usize) -> usize
     requires { HasRoots cells.now (k + 1) }
     ensures { result ≡ root_at cells.now k }

@@ -33,8 +33,10 @@ impl Store<'_> {
             Read self.old roots.old t self.new roots.new result }
     {
         let base = roots.top;
+        // Stays a loop over numbers: a symbol is two words, read by its place.
         for k in (0..words.len() / 2).rev() {
             let symbol = symbol_at(words, 2 * k).unwrap();
+            // Stays without `?`: the roots are cut back before the refusal is handed on.
             if let Err(full) = self.read_symbol(roots, parts, symbol) {
                 roots.truncate(base);
                 return Err(full);
@@ -49,6 +51,7 @@ impl Store<'_> {
         requires has_roots { HasRoots roots.old.cells.now roots.old.top }
         ensures { PartsOrFull self.now roots.old p.0 n roots.new result }
     {
+        // Stays a loop over numbers: a part is read by its number.
         for k in (0..n).rev() {
             roots.push(self.part(p, k))?;
         }
@@ -95,6 +98,7 @@ impl Store<'_> {
         roots.push(p)?;
         let mut at = 0;
         while roots.top > base {
+            // Stays without `?`: the roots are cut back before the refusal is handed on.
             if let Err(short) = self.write_symbol(roots, out, at) {
                 roots.truncate(base);
                 return Err(short);

@@ -1,7 +1,7 @@
 // Slots in lent words: reading and writing their cells. A slot of 16 words is one cache line.
 ghost use Rattle.std.specs.Prelude.{◌≡◌, ◌+◌, ◌-◌, ◌*◌, ◌<◌, ◌≤◌, false, length};
 ghost use Rattle.store.specs.Cells.{cell, HasSlot, CellPut, Cleared};
-ghost use Rattle.store.specs.Slots.{kind_of, arity_of, arity_at, part_at, tag_of, symbol_of, flag_of, PartsWritten};
+ghost use Rattle.store.specs.Slots.{kind_of, kind_at, arity_of, arity_at, part_at, tag_of, symbol_of, flag_of, PartsWritten};
 ghost use Rattle.store.specs.Keys.{SlotWritten};
 
 use crate::keys::Key;
@@ -24,6 +24,7 @@ pub const NOTE: usize = 7;
 pub const FLAG: usize = 8 * WORD;
 
 // Cell k of slot i.
+#[tactic(auto, unfolding(crate::specs::Cells::cell))]
 pub fn get(ws: &[u32], i: usize, k: usize) -> usize
     requires { (HasSlot ws.now i) × (k < 8) }
     ensures { result ≡ cell ws.now i k }
@@ -47,6 +48,7 @@ pub fn part(ws: &[u32], i: usize, k: usize) -> usize
 }
 
 // Clears cell k of the first n slots.
+// Stays a loop over numbers: the cells lie sixteen words apart.
 pub fn clear(ws: &mut [u32], n: usize, k: usize)
     requires { (16 * n ≤ length ws.old) × (k < 8) }
     ensures { Cleared ws.old n k ws.new }
@@ -57,6 +59,7 @@ pub fn clear(ws: &mut [u32], n: usize, k: usize)
 }
 
 // The kind in a head.
+#[tactic(auto, unfolding(crate::specs::Slots::kind_of))]
 pub fn kind(head: usize) -> usize
     ensures { result ≡ kind_of head }
 {
@@ -64,21 +67,30 @@ pub fn kind(head: usize) -> usize
 }
 
 // How many parts a kind has: a letter none.
+#[tactic(auto, unfolding(crate::specs::Slots::tag_of))]
 pub fn arity(kind: usize) -> usize
     ensures { result ≡ arity_of kind }
 {
     (kind / WORD).saturating_sub(1)
 }
 
-// How many parts slot i has.
+// The kind that slot i has, and how many parts.
+pub fn kind_at(ws: &[u32], i: usize) -> usize
+    requires { HasSlot ws.now i }
+    ensures { result ≡ kind_at ws.now i }
+{
+    kind(get(ws, i, HEAD))
+}
+
 pub fn arity_at(ws: &[u32], i: usize) -> usize
     requires { HasSlot ws.now i }
     ensures { result ≡ arity_at ws.now i }
 {
-    arity(kind(get(ws, i, HEAD)))
+    arity(kind_at(ws, i))
 }
 
 // The symbol of a kind.
+#[tactic(auto, unfolding(crate::specs::Slots::symbol_of))]
 pub fn symbol(kind: usize) -> u32
     ensures { result ≡ symbol_of kind }
 {

@@ -47,6 +47,7 @@ impl Store<'_> {
     }
 
     // Whether the term at a place is known to be normal.
+    #[tactic(auto, unfolding(crate::specs::Slots::flag_of))]
     pub fn is_normal(&self, p: Place) -> bool
         requires { p.0 < self.now.count }
         ensures { result ≡ flag_in self.now p.0 }

@@ -1,12 +1,8 @@
 -- A marked slot moves down, and another is passed over.
 use Rattle.std.proofs.Common.{◌∙◌, arith}
-use Rattle.store.proofs.Sliding.{slide_start, slide_skip, slide_step}
-use Rattle.store.proofs.Chaining.{chains_none}
+use Rattle.store.proofs.Sliding.{slide_skip, slide_step}
 use Rattle.store.proofs.collect.slide.Goals as goal
 use Rattle.store.proofs.collect.slide.Goals.{then-get-ne0, else-get-ne0}
-
-pub loop-i-init : goal.loop-i-init
-loop-i-init c = (slide_start _, chains_none c.args.mask c.args.ws.now (omega arith) c.requires.by_index)
 
 pub loop-i-preserved : goal.loop-i-preserved
 loop-i-preserved c =

@@ -1,23 +1,8 @@
 -- One part more, or no cell for it.
-use Rattle.std.proofs.Common.{◌≡◌, ℕ, ◌+◌, ◌-◌, length, ap, ◌∙◌, subst, arith}
-use Rattle.std.proofs.lemmas.Result.{err_from_is_err_and}
-use Rattle.store.specs.declared.types.Roots.{Roots}
-use Rattle.store.specs.Stacks.{root_in}
+use Rattle.std.proofs.Common.{◌≡◌, ℕ, ◌+◌, ◌-◌, subst, arith}
 use Rattle.store.specs.Transfers.{PartsPushed}
-use Rattle.store.proofs.Emitting.{pushed_none, pushed_more}
+use Rattle.store.proofs.Emitting.{pushed_more}
 use Rattle.store.proofs.types.Store.push_parts.Goals as goal
-
-pub loop-k-init : goal.loop-k-init
-loop-k-init c = pushed_none c.args.self.now c.args.roots.now c.args.p.0 _ _ (omega arith) (omega arith)
-
-pub returns-in_err-push : goal.returns-in_err-push
-returns-in_err-push c =
-    let h = c.in_err-push.ensures in let i = c.loop-k.invariant in
-    rw (err_from_is_err_and c.from_residual.result c.from_residual.ensures.1).1 (
-      ap (λ (r : Roots). length r.cells.now) h.1 ∙ i.long,
-      λ j l. ap (λ (r : Roots). root_in r j) h.1 ∙ i.rest j l,
-      λ f. h.2 (omega (arith, i.long, i.top)),
-    )
 
 pub loop-k-preserved : goal.loop-k-preserved
 loop-k-preserved c =

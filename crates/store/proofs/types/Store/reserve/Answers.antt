@@ -10,9 +10,11 @@ returns-then-n-self c =
 pub returns-then-n-self-3 : goal.returns-then-n-self-3
 returns-then-n-self-3 c =
     reserved_all c.args.self.now c.args.roots.now c.args.n c.collect.new.self c.collect.new.roots _
-    c.collect.ensures (omega (arith, c.args.self.now.within)) (record { words = refl; room = refl; count = refl; limit = refl }) (omega arith)
+    c.collect.ensures (omega (arith, c.args.self.now.within))
+    (record { words = refl; room = refl; count = refl; limit = refl }) (omega arith)
 
 pub returns-else-n-self-3 : goal.returns-else-n-self-3
 returns-else-n-self-3 c =
     reserved_none c.args.self.now c.args.roots.now c.args.n c.collect.new.self c.collect.new.roots _
-    c.collect.ensures (omega (arith, c.args.self.now.within)) (record { words = refl; room = refl; count = refl; limit = refl }) (omega arith)
+    c.collect.ensures (omega (arith, c.args.self.now.within))
+    (record { words = refl; room = refl; count = refl; limit = refl }) (omega arith)

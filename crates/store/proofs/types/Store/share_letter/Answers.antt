@@ -8,7 +8,7 @@ use Rattle.store.proofs.types.Store.share_letter.Goals as goal
 pub returns : goal.returns
 returns c =
     let a = c.args.self.now in
-    let h = c.letter_head in
+    let h = c.letter_head-head in
     let m = c.intern.ensures in
     let found = found_at a c.intern.new.self _ _ c.intern.result c.unwrap.result c.unwrap.ensures m.place
     (node_letter _ (kind_of h.result) _ c.args.x h.ensures.tag h.ensures.symbol) in

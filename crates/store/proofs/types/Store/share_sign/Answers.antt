@@ -10,7 +10,8 @@ returns-clause-shared c =
     let h = c.sign_head in
     let m = c.intern.ensures in
     let found = found_at a c.intern.new.self _ _ c.intern.result c.unwrap.result c.unwrap.ensures m.place
-    (sign_of a h.result c.args.f c.args.parts c.map.result c.args.n (λ k l. let m : k < 4 = omega arith in search rules) h.ensures.tag h.ensures.symbol) in
+    (sign_of a h.result c.args.f c.args.parts c.map.result c.args.n (λ k l. let m : k < 4 = omega arith in search rules)
+    h.ensures.tag h.ensures.symbol) in
     record {
       sound = sound_in c.intern.new.self;
       grown = m.grown;

@@ -30,5 +30,6 @@ returns-in_err-push_parts-in-Sign c =
     ∙ c.in-Sign.ensures.2 in
     record {
       below = sign_below a q p f n u e cut i r h.0 h.1;
-      symbol = rw (no_cell c.from_residual.result c.from_residual.ensures.1) (λ g. h.2 (omega (arith, sign_count a q p f n u e cut i, ap length cut.cells, cut.top)));
+      symbol = rw (no_cell c.from_residual.result c.from_residual.ensures.1)
+          (λ g. h.2 (omega (arith, sign_count a q p f n u e cut i, ap length cut.cells, cut.top)));
     }
