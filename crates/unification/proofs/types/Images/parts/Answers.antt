@@ -11,5 +11,5 @@ loop-k-preserved c = (
       (λ j h. let ne : j ≢ c.loop-k.k = omega arith in rw get_or-set_other (c.loop-k.invariant.1 j h))
       (let lt : c.loop-k.k < length c.loop-k.parts = omega (arith, c.loop-k.invariant.0) in
       rw get_or-set_same (ap (λ (i : ℕ). image c.args.self.now (label c.args.classes.now i)) (sym c.part.ensures.is)
-      ∙ ap (image c.args.self.now) (sym c.known_by.ensures) ∙ sym c.get.ensures ∙ c.in-Some.is)),
+      ∙ ap (image c.args.self.now) (sym c.known_by.ensures.label) ∙ sym c.get.ensures ∙ c.in_ok-parts.was)),
 )
