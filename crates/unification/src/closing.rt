@@ -56,10 +56,10 @@ impl Closing<'_, '_> {
         if f != g || n != m {
             return Err(Clash);
         }
-        match self.first_difference(p, q, n) {
-            Some(k) => Ok(Some((self.store.part(p, k), self.store.part(q, k)))),
-            None => Ok(None),
-        }
+        let Some(k) = self.first_difference(p, q, n) else {
+            return Ok(None);
+        };
+        Ok(Some((self.store.part(p, k), self.store.part(q, k))))
     }
 
     // Two places that have to be in one class and are not, if the classes are not closed.

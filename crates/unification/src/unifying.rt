@@ -15,6 +15,7 @@ fn bind_letters(letters: &Bindings, classes: &Classes, images: &Images) -> Bindi
     requires { (x : ℕ) → x < 32 → HasClass letters.now classes.now x }
     ensures { LetterImages letters.now classes.now images.now result }
 {
+    // Stays a loop: tried as the array's `map`, and no lemma says over an array what its closure asks of a letter's place.
     let mut bindings = Bindings::new();
     for x in 0..32 {
         let p = letters.get(x).unwrap();

@@ -11,10 +11,6 @@ pub loop-i-preserved-in_default : goal.loop-i-preserved-in_default
 loop-i-preserved-in_default c = found_sign c.args.store.now c.loop-i.i c.loop-i.letters c.requires (omega arith) c.loop-i.invariant
     c.in_default.field-0 _ c.in_default.ensures.2
 
-pub returns-then-x-ge32 : goal.returns-then-x-ge32
-returns-then-x-ge32 c low h =
-    let l = low c.loop-i.i c.in-Letter.x (omega arith) c.in-Letter.ensures.1 in absurd (omega arith)
-
 pub loop-i-preserved : goal.loop-i-preserved
 loop-i-preserved c = found_letter c.args.store.now c.loop-i.i c.loop-i.letters c.requires (omega arith) c.loop-i.invariant
     c.in-Letter.x (omega arith) c.in-Letter.ensures.1

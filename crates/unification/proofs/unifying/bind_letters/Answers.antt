@@ -1,7 +1,6 @@
 -- One letter more.
 use Rattle.std.proofs.Common.{◌<◌, is_some, sym, ap, ◌∙◌, subst, arith, length-set}
 use Rattle.store.specs.declared.types.Place.{Place}
-use Rattle.unification.specs.Classes.{label}
 use Rattle.unification.specs.Images.{image}
 use Rattle.unification.proofs.Built.{same_place}
 use Rattle.unification.proofs.Uniting.{letter_more}

@@ -1,6 +1,5 @@
 -- The least replacement, or none.
-use Rattle.std.proofs.Common.{◌≡◌, ap, arith}
-use Rattle.unification.specs.Images.{nones, unbuilt}
+use Rattle.std.proofs.Common.{arith}
 use Rattle.unification.proofs.Built.{building_first}
 use Rattle.unification.proofs.Checking.{closure_ok}
 use Rattle.unification.proofs.Uniting.{never_one, unifier_is}
@@ -13,20 +12,12 @@ build-requires c =
     c.in_ok-classes.ensures.value in
     building_first c.args.store.now c.in_ok-classes.classes c.new-images.result r.sound r.few r.space w.labelled c.new-images.ensures
 
-pub returns-then-not-complete : goal.returns-then-not-complete
-returns-then-not-complete c =
-    let b = c.build.ensures.goes in
-    let w = closure_ok c.args.store.now c.args.p c.args.q c.close.result c.in_ok-classes.classes c.close.ensures
-    c.in_ok-classes.ensures.value in
+pub returns-then-not-complete-clause-unified : goal.returns-then-not-complete-clause-unified
+returns-then-not-complete-clause-unified c =
     let x = c.if-not-complete.ensures in
-    let z : unbuilt c.new-images.result ≡ 96 = ap nones c.new-images.ensures in
-    record {
-      sound = b.building.sound;
-      grown = b.grown;
-      few = omega (arith, b.few);
-      unified = never_one c.args.store.now c.build.new.store c.args.p c.args.q c.in_ok-classes.classes
-          c.new-images.result c.build.new.images w b c.build.ensures.tells x.0 x.1;
-    }
+    never_one c.args.store.now c.build.new.store c.args.p c.args.q c.in_ok-classes.classes c.new-images.result c.build.new.images
+    (closure_ok c.args.store.now c.args.p c.args.q c.close.result c.in_ok-classes.classes c.close.ensures
+    c.in_ok-classes.ensures.value) c.build.ensures.goes c.build.ensures.tells x.0 x.1
 
 pub bind_letters-requires : goal.bind_letters-requires
 bind_letters-requires c x l =
@@ -34,17 +25,9 @@ bind_letters-requires c x l =
     let h = r.letters x l in
     (h.0, h.1, omega (arith, r.few, h.2))
 
-pub returns : goal.returns
-returns c =
-    let b = c.build.ensures.goes in
-    let w = closure_ok c.args.store.now c.args.p c.args.q c.close.result c.in_ok-classes.classes c.close.ensures
-    c.in_ok-classes.ensures.value in
-    let z : unbuilt c.new-images.result ≡ 96 = ap nones c.new-images.ensures in
-    record {
-      sound = b.building.sound;
-      grown = b.grown;
-      few = omega (arith, b.few);
-      unified = unifier_is c.args.store.now c.build.new.store c.args.p c.args.q c.in_ok-classes.classes
-          c.new-images.result c.build.new.images w b c.args.letters.now c.bind_letters.result
-          c.requires.0 c.if-not-complete.ensures c.bind_letters.ensures (omega arith) (omega arith);
-    }
+pub returns-clause-unified : goal.returns-clause-unified
+returns-clause-unified c =
+    unifier_is c.args.store.now c.build.new.store c.args.p c.args.q c.in_ok-classes.classes c.new-images.result c.build.new.images
+    (closure_ok c.args.store.now c.args.p c.args.q c.close.result c.in_ok-classes.classes c.close.ensures
+    c.in_ok-classes.ensures.value) c.build.ensures.goes c.args.letters.now c.bind_letters.result c.requires.0
+    c.if-not-complete.ensures c.bind_letters.ensures (omega arith) (omega arith)

@@ -1,5 +1,5 @@
 -- The first part at which the classes differ, if any.
-use Rattle.std.proofs.Common.{◌≡◌, ℕ, rules, tests}
+use Rattle.std.proofs.Common.{◌≡◌, rules, tests}
 use Rattle.std.proofs.lemmas.Iterator.{first_from_Range}
 use Rattle.store.specs.Stores.{part_in}
 use Rattle.unification.specs.Classes.{label}

@@ -1,7 +1,6 @@
 -- A clash, or one pair more.
-use Rattle.std.proofs.Common.{◌≡◌, ◌∙◌}
+use Rattle.std.proofs.Common.{◌∙◌}
 use Rattle.std.proofs.lemmas.Result.{MatchResult-from_err}
-use Rattle.unification.specs.Classes.{CoarserClosed, NoneRespects}
 use Rattle.unification.proofs.Checking.{coarser_more, none_before}
 use Rattle.unification.proofs.closing.Closing.saturate.Goals as goal
 

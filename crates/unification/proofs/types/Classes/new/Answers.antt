@@ -1,5 +1,5 @@
 -- Each place is its own label.
-use Rattle.std.proofs.Common.{◌≡◌, ℕ, ◌<◌, length, get_or, rules, arith}
+use Rattle.std.proofs.Common.{◌≡◌, ◌<◌, get_or, rules, arith}
 use Rattle.unification.proofs.types.Classes.new.Goals as goal
 
 pub invariant_of-result : goal.invariant_of-result

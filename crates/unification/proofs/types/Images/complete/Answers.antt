@@ -1,5 +1,5 @@
 -- Each class has an image, or one has none.
-use Rattle.std.proofs.Common.{◌≡◌, ℕ, true, false, is_some, refl, arith, rules, tests}
+use Rattle.std.proofs.Common.{◌≡◌, true, false, is_some, refl, arith, rules, tests}
 use Rattle.std.proofs.lemmas.Iterator.{cases_from_all, YieldsList-from_range}
 use Rattle.unification.specs.Classes.{label}
 use Rattle.unification.specs.Images.{image}
