@@ -2,6 +2,7 @@
 ghost use Rattle.std.specs.Prelude.{Some, None};
 ghost use Rattle.store.specs.Stores.{Sound, Inside};
 
+use arrayvec::ArrayVec;
 use engine::types::Bindings;
 use store::{Full, Place, Roots, Store};
 use unification::{find_letters, unify};
@@ -80,23 +81,15 @@ pub fn read(store: &mut Store, row: &[Symbol]) -> Option<Place>
     requires { Sound store.old }
     ensures { Sound store.new }
 {
-    let mut built = [Place(0); 16];
-    let mut len = 0usize;
+    let mut built = ArrayVec::<Place, 16>::new();
     for &symbol in row {
-        if len >= 16 {
-            return None;
-        }
-        let p = place_of(store, symbol, &built[..len])?;
+        let p = place_of(store, symbol, built.as_slice())?;
         if let Symbol::S(_, n) = symbol {
-            if n > len {
-                return None;
-            }
-            len -= n;
+            built.truncate(built.len().checked_sub(n)?);
         }
-        built[len] = p;
-        len += 1;
+        built.try_push(p).ok()?;
     }
-    Some(built[0])
+    built.first().copied()
 }
 
 // What unification says of the terms at two places.
