@@ -1,7 +1,10 @@
 -- Images built: one image more, none yet, and classes that wait for each other.
-use Rattle.std.proofs.Common.{◌≡◌, ℕ, zero, suc, ◌+◌, ◌<◌, ◌≤◌, Bool, true, false, ◌≢◌, List, [], ◌∷◌, length, get_or, set, replicate}
+use Rattle.std.proofs.Common.{◌≡◌, ℕ, zero, suc, ◌+◌, ◌<◌, ◌≤◌, Bool, true, false, ◌≢◌, List, [], ◌∷◌, length, get_or, set, replicate, is_some}
 use Rattle.std.proofs.Common.{Some, None, Option as Maybe, sym, refl, ap, ◌∙◌, subst, ⊎_elim, arith, length-set, get_or-set_other}
 use Rattle.std.proofs.Common.{get_or-set_same, below_more}
+use Rattle.std.proofs.lemmas.List.FromFn.{length-range_with_len, get_or-range_with_len}
+use Rattle.std.specs.Prelude.{MatchBool}
+use Rattle.std.specs.List.{AllWithin, HoldsAt, range_with_len}
 use lib.ListN.{length-replicate, get_or-replicate}
 use Rattle.rewriting.specs.Terms.{Term, letter, sign, Terms, put, puts, size, sizes}
 use Rattle.store.specs.declared.types.Store.{Store}
@@ -14,7 +17,7 @@ use Rattle.unification.specs.declared.types.Classes.{Classes}
 use Rattle.unification.specs.declared.types.Images.{Images}
 use Rattle.unification.specs.Classes.{label, Labelled, Respects, IsSign, Each}
 use Rattle.unification.specs.Images.{image, nones, unbuilt, ImageOf, MadeImage, Building, Builds, Waits, PartWanting}
-use Rattle.unification.specs.Images.{BuiltOrWaits, BuiltAt, RoundBuilt}
+use Rattle.unification.specs.Images.{BuiltOrWaits, BuiltAt, RoundBuilt, Complete}
 use Rattle.unification.proofs.Parts.{each_map, each_parts, puts_parts, part_size}
 
 abbrev zero_place : Place
@@ -25,6 +28,37 @@ some_is_none e = let z : ◌≡◌ {A = ℕ} 0 1 = cc in omega arith
 
 pub same_place : {p q : Place} → ◌≡◌ {A = Maybe Place} (Some p) (Some q) → p ≡ q
 same_place e = cc
+
+-- a place that is there, or none
+pub place_of : (o : Maybe Place) → is_some o ≡ true → (q : Place) × (o ≡ Some q)
+place_of None e = absurd (cc)
+place_of (Some q) e = (q, refl)
+
+pub none_of : (o : Maybe Place) → is_some o ≡ false → o ≡ None
+none_of None e = refl
+none_of (Some q) e = absurd (cc)
+
+pub image_none : {o : Maybe Place} (a : Maybe Place) (b : Bool) → a ≡ o → b ≡ is_some a → b ≡ false → o ≡ None
+image_none a b e f g = sym e ∙ none_of a (sym f ∙ g)
+
+-- what `all` gives of the first n places
+pub complete_or_not : (c : Classes) (m : Images) (n : ℕ) (r : Bool) → MatchBool r
+    (AllWithin (λ i. is_some (image m (label c i)) ≡ true) (range_with_len 0 n) 0 (length (range_with_len 0 n)))
+    ((k : ℕ) × (k < length (range_with_len 0 n)) × HoldsAt (λ i. is_some (image m (label c i)) ≡ false) (range_with_len 0 n) k) →
+    Complete c m n r
+complete_or_not c m n true h = λ i l.
+    let e : get_or (range_with_len 0 n) i 0 ≡ i = omega (arith, get_or-range_with_len 0 n i 0 l) in
+    place_of (image m (label c i)) (subst (λ (j : ℕ). is_some (image m (label c j)) ≡ true) e
+    (h i 0 (omega arith) (omega (arith, length-range_with_len 0 n))))
+complete_or_not c m n false h =
+    let l : h.0 < n = omega (arith, length-range_with_len 0 n, h.1) in
+    let e : get_or (range_with_len 0 n) h.0 0 ≡ h.0 = omega (arith, get_or-range_with_len 0 n h.0 0 l) in (
+      h.0,
+      record {
+        low = l;
+        wanting = none_of (image m (label c h.0)) (subst (λ (j : ℕ). is_some (image m (label c j)) ≡ false) e (h.2 0));
+      },
+    )
 
 -- one image more, one fewer wanting
 pub nones_set : (xs : List (Maybe Place)) (i : ℕ) (q : Place) → i < length xs → get_or xs i None ≡ None →

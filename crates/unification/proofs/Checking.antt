@@ -1,5 +1,7 @@
 -- The sign at a place against the one that its class is known by.
-use Rattle.std.proofs.Common.{◌≡◌, ℕ, ◌<◌, ◌≤◌, sym, refl, ap, ◌∙◌, subst, arith}
+use Rattle.std.proofs.Common.{◌≡◌, ℕ, ◌<◌, ◌≤◌, Some, None, Option as Maybe, sym, refl, ap, ◌∙◌, subst, arith}
+use Rattle.std.specs.Prelude.{MatchOption, Ok, Err, Result}
+use Rattle.std.specs.Result.{result_ok}
 use Rattle.rewriting.specs.Terms.{Term, letter, sign, Terms, put, puts, count}
 use Rattle.rewriting.proofs.Replacing.{count_puts}
 use Rattle.store.specs.declared.types.Store.{Store}
@@ -8,7 +10,8 @@ use Rattle.store.specs.Stores.{Sound, term_in, arity_in, part_in, parts_in}
 use Rattle.engine.proofs.Pendings.{count_parts_by}
 use Rattle.unification.specs.declared.types.Classes.{Classes}
 use Rattle.unification.specs.Classes.{label, IsSign, Labelled, Respects, SameClass, ClosedAt, NoneRespects, Forced, Merged, Each}
-use Rattle.unification.specs.Classes.{Coarser, CoarserClosed, Closure}
+use Rattle.unification.specs.declared.types.Clash.{Clash}
+use Rattle.unification.specs.Classes.{Coarser, CoarserClosed, Closure, ClosureOf, FirstDifference}
 use Rattle.unification.proofs.Parts.{each_parts, parts_put}
 
 -- a class with a sign is not known by a letter
@@ -84,14 +87,28 @@ module _ (st : Store) (c : Classes) (sound : Sound st) (w : Labelled st st.count
               })),
         )
 
--- one pair more
-pub coarser_more : (st : Store) (c d e : Classes) (p q : Place) → Coarser st c d → Forced st d p q → Merged st d p.0 q.0 e →
-    Coarser st c e
-coarser_more st c d e p q w o m = record {
-  labelled = m.labelled;
-  coarser = λ k l a b z. m.coarser k l a b (w.coarser k l a b z);
-  respects = λ r h. m.respects r (w.respects r h) (o.become r (w.respects r h));
-}
+-- what `find` gives of the parts' numbers
+pub difference_or_none : (st : Store) (c : Classes) (i j n : ℕ) (r : Maybe ℕ) →
+    MatchOption r ((k : ℕ) → 0 ≤ k → k < n → label c (part_in st i k) ≡ label c (part_in st j k))
+    (λ k. (0 ≤ k) × (k < n) × (label c (part_in st i k) ≡ label c (part_in st j k) → ⊥)
+    × ((l : ℕ) → 0 ≤ l → l < k → label c (part_in st i l) ≡ label c (part_in st j l))) → FirstDifference st c i j n r
+difference_or_none st c i j n None h = λ k l. h k (omega arith) l
+difference_or_none st c i j n (Some k) h = record { low = h.1; differ = h.2 }
+
+-- one pair more, in a store that is as it was
+pub coarser_more : (st su : Store) (c d e : Classes) (p q : Place) → su ≡ st → Coarser st c d → Forced su d p q →
+    Merged su d p.0 q.0 e → Coarser st c e
+coarser_more st su c d e p q s w o m =
+    let x = subst (λ (z : Store). Forced z d p q) s o in
+    let y = subst (λ (z : Store). Merged z d p.0 q.0 e) s m in
+    record {
+      labelled = y.labelled;
+      coarser = λ k l a b z. y.coarser k l a b (w.coarser k l a b z);
+      respects = λ r h. y.respects r (w.respects r h) (x.become r (w.respects r h));
+    }
+
+pub none_before : (st su : Store) (c d : Classes) → su ≡ st → Coarser st c d → NoneRespects su su.count d → NoneRespects st st.count c
+none_before st su c d s w n r h = subst (λ (z : Store). NoneRespects z z.count d) s n r (w.respects r h)
 
 -- every place for itself, then two in one class
 respects_apart : (st : Store) (c : Classes) → st.count ≤ 96 → ((i : ℕ) → i < 96 → label c i ≡ i) → (r : ℕ → Term) →
@@ -110,3 +127,9 @@ module _ (st : Store) (p q : Place) (c d : Classes) (few : st.count ≤ 96) (h :
 
   pub no_closure : NoneRespects st st.count d → (r : ℕ → Term) → put r (term_in st p.0) ≡ put r (term_in st q.0) → ⊥
   no_closure n r z = n r (m.respects r (respects_apart st c few h r) z)
+
+-- the closure that there is
+pub closure_ok : (st : Store) (p q : Place) (r : Result Classes Clash) (c : Classes) → ClosureOf st p q r → Some c ≡ result_ok r →
+    Closure st p q c
+closure_ok st p q (Ok d) c h e = let z : d ≡ c = cc in subst (Closure st p q) z h
+closure_ok st p q (Err x) c h e = absurd (cc)

@@ -1,20 +1,23 @@
 -- Labels of places: two classes made one by relabelling, and how many classes are left.
-use Rattle.std.proofs.Common.{◌≡◌, ℕ, zero, suc, ◌<◌, ◌≤◌, Bool, true, false, cond, eqb, length, sym, refl, ap, ◌∙◌, subst, ⊎_elim, arith}
+use Rattle.std.proofs.Common.{◌≡◌, ℕ, zero, suc, ◌<◌, ◌≤◌, Bool, true, false, cond, eqb, List, length, get_or, sym, refl, ap, ◌∙◌, subst, ⊎_elim, arith}
 use Rattle.std.proofs.Common.{eqb-true}
 use borrow.Author.Tests.{eqb-false}
+use Rattle.std.specs.List.{All}
 use Rattle.rewriting.specs.Terms.{Term, letter, sign, Terms, put}
 use Rattle.store.specs.declared.types.Store.{Store}
+use Rattle.store.specs.declared.types.Place.{Place}
 use Rattle.store.specs.Stores.{term_in}
 use Rattle.store.proofs.Cases.{eq_or}
 use Rattle.unification.specs.declared.types.Classes.{Classes}
 use Rattle.unification.specs.Classes.{label, IsSign, Labelled, Respects, class_count, Relabelled, Merged}
 
--- the first n places are relabelled, and the rest is as it was
-pub record RelabelledBelow (n : ℕ) (c : Classes) (a b : ℕ) (d : Classes) : Type 0 where
-  pub long : length d.labels ≡ 96
-  pub moved : (i : ℕ) → i < n → label c i ≡ a → label d i ≡ b
-  pub kept : (i : ℕ) → i < n → (label c i ≡ a → ⊥) → label d i ≡ label c i
-  pub rest : (i : ℕ) → n ≤ i → label d i ≡ label c i
+-- the first n labels of xs are changed, and the rest is as it was
+pub record RelabelledBelow (n : ℕ) (xs : List Place) (a b : Place) (ys : List Place) : Type 0 where
+  pub long : length ys ≡ 96
+  pub low : All (λ p. p.0 < 96) ys
+  pub moved : (i : ℕ) → i < n → (get_or xs i (record { 0 = 0 })).0 ≡ a.0 → (get_or ys i (record { 0 = 0 })).0 ≡ b.0
+  pub kept : (i : ℕ) → i < n → ((get_or xs i (record { 0 = 0 })).0 ≡ a.0 → ⊥) → get_or ys i (record { 0 = 0 }) ≡ get_or xs i (record { 0 = 0 })
+  pub rest : (i : ℕ) → n ≤ i → get_or ys i (record { 0 = 0 }) ≡ get_or xs i (record { 0 = 0 })
 
 -- how many labels there are, if no place becomes one
 bit_le : (x y i : ℕ) → (x ≡ i → y ≡ i) → cond (eqb x i) 1 0 ≤ cond (eqb y i) 1 0

@@ -1,5 +1,8 @@
 -- The letters of a store, found place by place.
-use Rattle.std.proofs.Common.{◌≡◌, ℕ, ◌+◌, ◌<◌, ◌≢◌, List, length, get_or, set, replicate, Some, None, Option as Maybe, sym, ap, ◌∙◌}
+use Rattle.std.specs.Prelude.{MatchBool}
+use Rattle.std.specs.Bool.{then_some}
+use Rattle.std.specs.List.{AllWithin, HoldsAt}
+use Rattle.std.proofs.Common.{◌≡◌, ℕ, ◌+◌, ◌<◌, ◌≢◌, Bool, true, false, is_some, List, length, get_or, set, replicate, Some, None, Option as Maybe, sym, ap, ◌∙◌}
 use Rattle.std.proofs.Common.{⊎_elim, arith, length-set, get_or-set_other, get_or-set_same}
 use lib.ListN.{length-replicate, get_or-replicate}
 use Rattle.std.proofs.lemmas.List.{get_or_past}
@@ -11,8 +14,8 @@ use Rattle.store.proofs.Cases.{eq_or, le_or_lt, last_or_below}
 use Rattle.store.proofs.Telling.{one_place}
 use Rattle.engine.specs.declared.types.Bindings.{Bindings}
 use Rattle.engine.specs.Matching.{bound, Bound}
-use Rattle.unification.specs.Unifiers.{LettersBound, LettersLow, LettersStand}
-use Rattle.unification.proofs.Built.{some_is_none, same_place}
+use Rattle.unification.specs.Unifiers.{LettersBound, LettersLow, LettersStand, LettersFound, AllBound}
+use Rattle.unification.proofs.Built.{some_is_none, same_place, place_of, none_of}
 
 -- the letters at the first n places are bound to them, and no others are bound
 pub record FoundBelow (st : Store) (n : ℕ) (b : Bindings) : Type 0 where
@@ -85,6 +88,13 @@ module _ (st : Store) (n : ℕ) (b : Bindings) (sound : Sound st) (inside : n < 
           let z : i ≡ n = one_place st.words.now st.count i n sound.shared (omega arith) inside (d ∙ ap letter s ∙ sym e) in
           omega arith
 
+-- what `all` gives of the letters
+pub bound_or_not : (b : Bindings) (r : Bool) → length b.at ≡ 32 → MatchBool r
+    (AllWithin (λ o. is_some o ≡ true) b.at 0 (length b.at))
+    ((k : ℕ) × (k < length b.at) × HoldsAt (λ o. is_some o ≡ false) b.at k) → AllBound b r
+bound_or_not b true long h = λ x l. place_of (bound b x) (h x None (omega arith) (omega arith))
+bound_or_not b false long h = (h.0, omega (arith, h.1), none_of (bound b h.0) (h.2 None))
+
 pub all_found : (st : Store) (b : Bindings) → FoundBelow st st.count b → ((x : ℕ) → x < 32 → Bound b x) →
     LettersLow st × LettersBound st b
 all_found st b w h = (w.low, λ x l. let k = h x l in let s = w.stands x k.0 k.1 in (k.0, k.1, s.0, s.1))
@@ -92,3 +102,7 @@ all_found st b w h = (w.low, λ x l. let k = h x l in let s = w.stands x k.0 k.1
 pub not_all : (st : Store) (b : Bindings) (x : ℕ) → FoundBelow st st.count b → x < 32 → bound b x ≡ None →
     LettersLow st → LettersStand st → ⊥
 not_all st b x w l e low h = let k = h x l in some_is_none (sym (w.found k.0 x k.1 k.2) ∙ e)
+
+pub letters_found : (st : Store) (b : Bindings) (r : Bool) → FoundBelow st st.count b → AllBound b r → LettersFound st (then_some r b)
+letters_found st b true w h = all_found st b w h
+letters_found st b false w h = λ low k. not_all st b h.0 w h.1 h.2 low k

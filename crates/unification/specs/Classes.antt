@@ -1,26 +1,34 @@
 -- Classes of places. Each place has a label, the place by which its class is known; a class with signs is known by one of them.
-use Rattle.std.specs.Prelude.{◌≡◌, ℕ, zero, suc, ◌+◌, ◌<◌, Bool, true, false, cond, Some, None, Option as Maybe, ◌==◌, ◌≢◌, slice_index}
+use Rattle.std.specs.Prelude.{◌≡◌, ℕ, zero, suc, ◌+◌, ◌<◌, cond, Some, None, Option as Maybe, Ok, Err, Result, MatchResult, ◌==◌, ◌≢◌, slice_index_or}
+use denote.Struct.Props as logic
 use Rattle.rewriting.specs.Terms.{Term, letter, sign, Terms, none1, and1, put}
 use Rattle.store.specs.declared.types.Store.{Store}
 use Rattle.store.specs.declared.types.Place.{Place}
 use Rattle.store.specs.Stores.{term_in, part_in}
 use Rattle.unification.specs.declared.types.Classes.{Classes}
-use Rattle.unification.specs.declared.types.Check.{Check}
-use Rattle.unification.specs.declared.types.Check.TheVariants.{Clash, Apart, Closed}
+use Rattle.unification.specs.declared.types.Clash.{Clash}
 
 -- the label of place i
 abbrev pub label : Classes → ℕ → ℕ
-label c i = slice_index c.labels i
+label c i = (slice_index_or c.labels i (record { 0 = 0 })).0
 
 abbrev pub IsSign : Term → Type 0
 IsSign (letter x) = ⊥
 IsSign (sign f ts) = Unit {0}
+
+IsSign-prop : (t : Term) → IsProp (IsSign t)
+IsSign-prop (letter x) = Prim.hlevel
+IsSign-prop (sign f ts) = Prim.hlevel
 
 -- the first n places have labels among them
 pub record Labelled (st : Store) (n : ℕ) (c : Classes) : Type 0 where
   pub low : (i : ℕ) → i < n → label c i < n
   pub own : (i : ℕ) → i < n → label c (label c i) ≡ label c i
   pub signs : (i : ℕ) → i < n → IsSign (term_in st i) → IsSign (term_in st (label c i))
+
+-- that has one proof at most
+pub Labelled-prop : (st : Store) (n : ℕ) (c : Classes) → IsProp (Labelled st n c)
+Labelled-prop st n c = Prim.hlevel (IsSign-prop, logic.props)
 
 -- a replacement makes the terms of each class one
 abbrev pub Respects : Store → ℕ → Classes → (ℕ → Term) → Type 0
@@ -78,15 +86,15 @@ pub record Forced (st : Store) (c : Classes) (p q : Place) : Type 0 where
   pub become : (r : ℕ → Term) → Respects st st.count c r → put r (term_in st p.0) ≡ put r (term_in st q.0)
 
 -- what was found at place i, and at all places
-abbrev pub CheckedAt : Store → Classes → ℕ → Check → Type 0
-CheckedAt st c i Clash = NoneRespects st st.count c
-CheckedAt st c i (Apart p q) = Forced st c p q
-CheckedAt st c i Closed = ClosedAt st st.count c i
+abbrev pub CheckedAt : Store → Classes → ℕ → Result (Maybe (Place × Place)) Clash → Type 0
+CheckedAt st c i (Err e) = NoneRespects st st.count c
+CheckedAt st c i (Ok (Some (p, q))) = Forced st c p q
+CheckedAt st c i (Ok None) = ClosedAt st st.count c i
 
-abbrev pub Checked : Store → Classes → Check → Type 0
-Checked st c Clash = NoneRespects st st.count c
-Checked st c (Apart p q) = Forced st c p q
-Checked st c Closed = (i : ℕ) → i < st.count → ClosedAt st st.count c i
+abbrev pub Checked : Store → Classes → Result (Maybe (Place × Place)) Clash → Type 0
+Checked st c (Err e) = NoneRespects st st.count c
+Checked st c (Ok (Some (p, q))) = Forced st c p q
+Checked st c (Ok None) = (i : ℕ) → i < st.count → ClosedAt st st.count c i
 
 -- the first part at which the classes of two signs' parts differ, if any
 pub record DifferAt (st : Store) (c : Classes) (i j n k : ℕ) : Type 0 where
@@ -108,9 +116,8 @@ pub record CoarserClosed (st : Store) (c d : Classes) : Type 0 where
   pub merged : Coarser st c d
   pub closed : (i : ℕ) → i < st.count → ClosedAt st st.count d i
 
-abbrev pub Saturated : Store → Classes → Classes → Bool → Type 0
-Saturated st c d true = CoarserClosed st c d
-Saturated st c d false = NoneRespects st st.count c
+abbrev pub Saturated : Store → Classes → Classes → Result (Unit {0}) Clash → Type 0
+Saturated st c d r = MatchResult r (λ _. CoarserClosed st c d) (λ _. NoneRespects st st.count c)
 
 -- closed classes with p and q in one, which what makes their terms one respects; or nothing makes them one
 pub record Closure (st : Store) (p q : Place) (c : Classes) : Type 0 where
@@ -119,6 +126,5 @@ pub record Closure (st : Store) (p q : Place) (c : Classes) : Type 0 where
   pub respects : (r : ℕ → Term) → put r (term_in st p.0) ≡ put r (term_in st q.0) → Respects st st.count c r
   pub closed : (i : ℕ) → i < st.count → ClosedAt st st.count c i
 
-abbrev pub ClosureOf : Store → Place → Place → Maybe Classes → Type 0
-ClosureOf st p q (Some c) = Closure st p q c
-ClosureOf st p q None = (r : ℕ → Term) → put r (term_in st p.0) ≢ put r (term_in st q.0)
+abbrev pub ClosureOf : Store → Place → Place → Result Classes Clash → Type 0
+ClosureOf st p q c = MatchResult c (λ d. Closure st p q d) (λ _. (r : ℕ → Term) → put r (term_in st p.0) ≢ put r (term_in st q.0))

@@ -1,8 +1,7 @@
 // Building images, in rounds over the places from the lowest up, as long as there is one whose parts have images.
+// Stays four parameters: a struct over them would have to say in each clause that n and the classes are as before.
 ghost use Rattle.std.specs.Prelude.{◌<◌, false};
-ghost use Rattle.unification.specs.Images.{Building, Builds};
-ghost use Rattle.unification.specs.Images.{BuiltAt};
-ghost use Rattle.unification.specs.Images.{RoundBuilt};
+ghost use Rattle.unification.specs.Images.{Building, Builds, BuiltAt, RoundBuilt};
 
 use crate::types::{Classes, Images};
 use store::{Node, Place, Store};
@@ -10,45 +9,33 @@ use store::{Node, Place, Store};
 // Builds the image of the class that is known by a place, unless it has one or waits for those of its parts. A letter is its own.
 fn build_at(store: &mut Store, n: usize, classes: &Classes, images: &mut Images, p: Place) -> bool
     requires { (Building store.old n classes.now images.old) × (p.0 < n) }
-    ensures goes { Builds store.old images.old n classes.now
-        store.new images.new }
-    ensures tells { BuiltAt store.old images.old n classes.now p.0
-        store.new images.new result }
+    ensures goes { Builds store.old images.old n classes.now store.new images.new }
+    ensures tells { BuiltAt store.old images.old n classes.now p.0 store.new images.new result }
 {
-    if classes.known_by(p).0 != p.0 {
+    if classes.known_by(p) != p || images.get(p).is_some() {
         return false;
     }
-    let None = images.get(p) else {
-        return false;
-    };
     match store.view(p) {
-        Node::Letter(_) => {
-            images.put(p, p);
-            true
+        Node::Letter(_) => images.put(p, p),
+        Node::Sign(f, m) => {
+            let Some(parts) = images.parts(store, classes, p, m) else {
+                return false;
+            };
+            images.put(p, store.share_sign(f, parts, m));
         }
-        Node::Sign(f, m) => match images.parts(store, classes, p, m) {
-            Some(parts) => {
-                let q = store.share_sign(f, parts, m);
-                images.put(p, q);
-                true
-            }
-            None => false,
-        },
     }
+    true
 }
 
 // Whether a round over the first n places has built an image.
 fn build_round(store: &mut Store, n: usize, classes: &Classes, images: &mut Images) -> bool
     requires { Building store.old n classes.now images.old }
-    ensures goes { Builds store.old images.old n classes.now
-        store.new images.new }
+    ensures goes { Builds store.old images.old n classes.now store.new images.new }
     ensures tells { RoundBuilt images.old n classes.now n store.new images.new result }
 {
     let mut found = false;
     for i in 0..n {
-        if build_at(store, n, classes, images, Place(i)) {
-            found = true;
-        }
+        found |= build_at(store, n, classes, images, Place(i));
     }
     found
 }
@@ -56,8 +43,7 @@ fn build_round(store: &mut Store, n: usize, classes: &Classes, images: &mut Imag
 // Builds images until the rest wait for each other.
 pub fn build(store: &mut Store, n: usize, classes: &Classes, images: &mut Images)
     requires { Building store.old n classes.now images.old }
-    ensures goes { Builds store.old images.old n classes.now
-        store.new images.new }
+    ensures goes { Builds store.old images.old n classes.now store.new images.new }
     ensures tells { RoundBuilt images.old n classes.now n store.new images.new false }
 {
     while build_round(store, n, classes, images) {}

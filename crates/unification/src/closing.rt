@@ -1,93 +1,102 @@
 // Closing classes: the parts of signs in one class are merged, until no class has two different signs or parts in different classes.
 ghost use Rattle.std.specs.Prelude.{◌≡◌, ◌<◌, ◌≤◌};
-ghost use Rattle.store.specs.Stores.{Sound};
-ghost use Rattle.store.specs.Stores.{arity_in};
-ghost use Rattle.unification.specs.Classes.{Labelled, Checked, Saturated};
-ghost use Rattle.unification.specs.Classes.{CheckedAt};
-ghost use Rattle.unification.specs.Classes.{ClosureOf};
-ghost use Rattle.unification.specs.Classes.{FirstDifference};
+ghost use Rattle.store.specs.Stores.{Sound, arity_in};
+ghost use Rattle.unification.specs.Classes.{Labelled, Labelled-prop, Merged, Checked, CheckedAt, Saturated, ClosureOf, FirstDifference};
 
-use crate::types::{Check, Classes};
+use crate::types::{Clash, Classes};
 use store::{Node, Place, Store};
 
-// The first of n parts at which the parts of two signs are in different classes.
-fn first_difference(store: &Store, classes: &Classes, p: Place, q: Place, n: usize) -> Option<usize>
-    requires sound { (Sound store.now) × ((store.now.count ≤ 96) × ((p.0 < store.now.count) × (q.0 < store.now.count))) }
-    requires p_value { (arity_in store.now p.0 ≡ n) × (arity_in store.now q.0 ≡ n) }
-    ensures { FirstDifference store.now classes.now p.0 q.0 n result }
-{
-    for k in 0..n {
-        let a = classes.known_by(store.part(p, k));
-        let b = classes.known_by(store.part(q, k));
-        if a.0 != b.0 {
-            return Some(k);
+// The classes of a small store's places, while they are merged.
+#[derive(Drop)]
+struct Closing<'s, 'a> {
+    store: &'s Store<'a>,
+    classes: Classes,
+    ghost few: { store.now.count ≤ 96 },
+    ghost labelled: { Labelled store.now store.now.count classes } by { Labelled-prop store.now store.now.count classes },
+}
+
+impl Closing<'_, '_> {
+    // Makes the classes of two places one. It is known by a sign, if there is one.
+    fn merge(&mut self, p: Place, q: Place)
+        requires { (Sound self.old.store.now) × ((p.0 < self.old.store.now.count) × (q.0 < self.old.store.now.count)) }
+        ensures store { self.new.store.now ≡ self.old.store.now }
+        ensures merged { Merged self.old.store.now self.old.classes p.0 q.0 self.new.classes }
+    {
+        let a = self.classes.known_by(p);
+        let b = self.classes.known_by(q);
+        match self.store.view(a) {
+            Node::Letter(_) => self.classes.relabel(a, b),
+            Node::Sign(_, _) => self.classes.relabel(b, a),
         }
     }
-    None
-}
 
-// Compares the sign at a place with the one that its class is known by.
-fn check_at(store: &Store, classes: &Classes, p: Place) -> Check
-    requires sound { (Sound store.now) × ((store.now.count ≤ 96) × (p.0 < store.now.count)) }
-    requires labelled { Labelled store.now store.now.count classes.now }
-    ensures { CheckedAt store.now classes.now p.0 result }
-{
-    let Node::Sign(f, n) = store.view(p) else {
-        return Check::Closed;
-    };
-    let q = classes.known_by(p);
-    let Node::Sign(g, m) = store.view(q) else {
-        unreachable()
-    };
-    if f != g || n != m {
-        return Check::Clash;
+    // The first of n parts at which the parts of two signs are in different classes.
+    fn first_difference(&self, p: Place, q: Place, n: usize) -> Option<usize>
+        requires sound { Sound self.now.store.now }
+        requires p { (p.0 < self.now.store.now.count) × (arity_in self.now.store.now p.0 ≡ n) }
+        requires q { (q.0 < self.now.store.now.count) × (arity_in self.now.store.now q.0 ≡ n) }
+        ensures { FirstDifference self.now.store.now self.now.classes p.0 q.0 n result }
+    {
+        let class = |p, k| self.classes.known_by(self.store.part(p, k));
+        (0..n).find(|&k| class(p, k) != class(q, k))
     }
-    match first_difference(store, classes, p, q, n) {
-        Some(k) => Check::Apart(store.part(p, k), store.part(q, k)),
-        None => Check::Closed,
-    }
-}
 
-// Looks for a place where the classes are not closed.
-fn check(store: &Store, classes: &Classes) -> Check
-    requires sound { (Sound store.now) × (store.now.count ≤ 96) }
-    requires labelled { Labelled store.now store.now.count classes.now }
-    ensures { Checked store.now classes.now result }
-{
-    for i in 0..store.count {
-        match check_at(store, classes, Place(i)) {
-            Check::Clash => return Check::Clash,
-            Check::Apart(p, q) => return Check::Apart(p, q),
-            Check::Closed => {}
+    // Compares the sign at a place with the one that its class is known by: two parts that have to be in one class, if any.
+    fn check_at(&self, p: Place) -> Result<Option<(Place, Place)>, Clash>
+        requires { (Sound self.now.store.now) × (p.0 < self.now.store.now.count) }
+        ensures { CheckedAt self.now.store.now self.now.classes p.0 result }
+    {
+        let Node::Sign(f, n) = self.store.view(p) else {
+            return Ok(None);
+        };
+        let q = self.classes.known_by(p);
+        let Node::Sign(g, m) = self.store.view(q) else {
+            unreachable()
+        };
+        if f != g || n != m {
+            return Err(Clash);
         }
+        let Some(k) = self.first_difference(p, q, n) else {
+            return Ok(None);
+        };
+        Ok(Some((self.store.part(p, k), self.store.part(q, k))))
     }
-    Check::Closed
-}
 
-// Merges classes until they are closed; no if signs clash.
-fn saturate(store: &Store, classes: &mut Classes) -> bool
-    requires sound { (Sound store.now) × (store.now.count ≤ 96) }
-    requires labelled { Labelled store.now store.now.count classes.old }
-    ensures { Saturated store.now classes.old classes.new result }
-{
-    loop {
-        match check(store, classes) {
-            Check::Clash => return false,
-            Check::Apart(p, q) => classes.merge(store, p, q),
-            Check::Closed => return true,
+    // Two places that have to be in one class and are not, if the classes are not closed.
+    fn check(&self) -> Result<Option<(Place, Place)>, Clash>
+        requires { Sound self.now.store.now }
+        ensures { Checked self.now.store.now self.now.classes result }
+    {
+        for i in 0..self.store.count {
+            if let Some(apart) = self.check_at(Place(i))? {
+                return Ok(Some(apart));
+            }
         }
+        Ok(None)
+    }
+
+    // Merges classes until they are closed, unless signs clash.
+    fn saturate(&mut self) -> Result<(), Clash>
+        requires { Sound self.old.store.now }
+        ensures { Saturated self.old.store.now self.old.classes self.new.classes result }
+    {
+        while let Some((p, q)) = self.check()? {
+            self.merge(p, q);
+        }
+        Ok(())
     }
 }
 
-// The least closed classes with two places in one; none if signs clash.
-pub fn close(store: &Store, p: Place, q: Place) -> Option<Classes>
+// The least closed classes with two places in one, unless signs clash.
+pub fn close(store: &Store, p: Place, q: Place) -> Result<Classes, Clash>
     requires { (Sound store.now) × ((store.now.count ≤ 96) × ((p.0 < store.now.count) × (q.0 < store.now.count))) }
     ensures { ClosureOf store.now p q result }
 {
-    let mut classes = Classes::new();
-    classes.merge(store, p, q);
-    if !saturate(store, &mut classes) {
-        return None;
-    }
-    Some(classes)
+    let mut closing = Closing {
+        store,
+        classes: Classes::new(),
+    };
+    closing.merge(p, q);
+    closing.saturate()?;
+    Ok(closing.classes)
 }

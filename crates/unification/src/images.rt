@@ -1,10 +1,7 @@
 // Images of classes: none at first, and then built from the images of parts.
 ghost use Rattle.std.specs.Prelude.{◌≡◌, ℕ, ◌<◌, ◌≤◌, replicate, Some, None, slice_set};
-ghost use Rattle.store.specs.Stores.{Sound};
-ghost use Rattle.store.specs.Stores.{arity_in};
-ghost use Rattle.unification.specs.Classes.{label};
-ghost use Rattle.unification.specs.Images.{image, Complete};
-ghost use Rattle.unification.specs.Images.{PartImages};
+ghost use Rattle.store.specs.Stores.{Sound, arity_in};
+ghost use Rattle.unification.specs.Images.{image, Complete, PartImages};
 
 use crate::types::{Classes, Images};
 use store::{Place, Store};
@@ -32,30 +29,22 @@ impl Images {
 
     // The images of the parts of the sign at a place, if they all are built.
     pub fn parts(&self, store: &Store, classes: &Classes, p: Place, n: usize) -> Option<[Place; 4]>
-        requires sound { (Sound store.now) × ((p.0 < store.now.count) × ((p.0 < 96) × ((arity_in store.now p.0 ≡ n) × (n ≤ 4)))) }
-        requires by_index { (i : ℕ) → i < p.0 → label classes.now i < 96 }
+        requires sound { (Sound store.now) × ((p.0 < store.now.count) × (p.0 < 96)) }
+        requires arity { (arity_in store.now p.0 ≡ n) × (n ≤ 4) }
         ensures { PartImages store.now classes.now self.now p.0 n result }
     {
         let mut parts = [Place(0); 4];
         for k in 0..n {
-            match self.get(classes.known_by(store.part(p, k))) {
-                Some(q) => parts[k] = q,
-                None => return None,
-            }
+            parts[k] = self.get(classes.known_by(store.part(p, k)))?;
         }
         Some(parts)
     }
 
     // Whether the classes of the first n places all have images.
     pub fn complete(&self, classes: &Classes, n: usize) -> bool
-        requires { (n ≤ 96) × (((i : ℕ) → i < n → label classes.now i < 96)) }
+        requires { n ≤ 96 }
         ensures { Complete classes.now self.now n result }
     {
-        for i in 0..n {
-            let Some(_) = self.get(classes.known_by(Place(i))) else {
-                return false;
-            };
-        }
-        true
+        (0..n).all(|i| self.get(classes.known_by(Place(i))).is_some())
     }
 }

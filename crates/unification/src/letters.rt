@@ -1,7 +1,6 @@
 // Where the letters of a store stand.
 ghost use Rattle.store.specs.Stores.{Sound};
-ghost use Rattle.unification.specs.Unifiers.{AllBound};
-ghost use Rattle.unification.specs.Unifiers.{LettersFound};
+ghost use Rattle.unification.specs.Unifiers.{AllBound, LettersFound};
 
 use engine::types::Bindings;
 use store::{Node, Place, Store};
@@ -9,12 +8,7 @@ use store::{Node, Place, Store};
 fn all_bound(letters: &Bindings) -> bool
     ensures { AllBound letters.now result }
 {
-    for x in 0..32 {
-        let Some(_) = letters.get(x) else {
-            return false;
-        };
-    }
-    true
+    letters.at.iter().all(|p| p.is_some())
 }
 
 // The places of the letters, if the letters of the store are just those below 32.
@@ -32,8 +26,5 @@ pub fn find_letters(store: &Store) -> Option<Bindings>
         }
         letters.at[x as usize] = Some(Place(i));
     }
-    if !all_bound(&letters) {
-        return None;
-    }
-    Some(letters)
+    all_bound(&letters).then_some(letters)
 }

@@ -1,22 +1,22 @@
-// The types: classes of places, their images, and what is found when classes are checked.
+// The types: classes of places, their images, and that classes have two different signs.
+ghost use Rattle.std.specs.Prelude.{◌<◌, All};
+
 use store::Place;
 
 // For each of 96 places its label: the place by which its class is known.
 #[derive(Clone, Copy)]
 pub struct Classes {
-    pub labels: [usize; 96],
+    pub labels: [Place; 96],
+    ghost low: { All (λ p. p.0 < 96) labels },
 }
 
 // For each class, by its label, the place of what becomes of its terms, once that is built.
+// Stays beside engine's bindings: they are kept by the number of a letter and bound once, and only the array is the same.
 #[derive(Clone, Copy)]
 pub struct Images {
     pub at: [Option<Place>; 96],
 }
 
-// What is found when classes are checked: two signs of one class that differ, two places that have to be in one class, or neither.
-#[derive(Clone, Copy)]
-pub enum Check {
-    Clash,
-    Apart(Place, Place),
-    Closed,
-}
+// Two signs of one class differ.
+#[derive(Clone, Copy, Debug, PartialEq, Eq)]
+pub struct Clash;

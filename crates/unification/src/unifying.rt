@@ -1,10 +1,8 @@
 // Unification: classes of places that have to become one, closed and without cycles, give the least replacement.
 ghost use Rattle.std.specs.Prelude.{ℕ, ◌+◌, ◌<◌, ◌≤◌};
-ghost use Rattle.store.specs.Stores.{Sound, Grown};
-ghost use Rattle.store.specs.Stores.{term_in};
+ghost use Rattle.store.specs.Stores.{Sound, Grown, term_in};
 ghost use Rattle.unification.specs.Unifiers.{Ready, Unified};
-ghost use Rattle.unification.specs.Images.{HasClass};
-ghost use Rattle.unification.specs.Images.{LetterImages};
+ghost use Rattle.unification.specs.Images.{HasClass, LetterImages};
 
 use crate::building::build;
 use crate::closing::close;
@@ -17,6 +15,7 @@ fn bind_letters(letters: &Bindings, classes: &Classes, images: &Images) -> Bindi
     requires { (x : ℕ) → x < 32 → HasClass letters.now classes.now x }
     ensures { LetterImages letters.now classes.now images.now result }
 {
+    // Stays a loop: tried as the array's `map`, and no lemma says over an array what its closure asks of a letter's place.
     let mut bindings = Bindings::new();
     for x in 0..32 {
         let p = letters.get(x).unwrap();
@@ -34,9 +33,7 @@ pub fn unify(store: &mut Store, letters: &Bindings, p: Place, q: Place) -> Optio
     ensures unified { Unified store.new (term_in store.old p.0) (term_in store.old q.0) result }
 {
     let n = store.count;
-    let Some(classes) = close(store, p, q) else {
-        return None;
-    };
+    let classes = close(store, p, q).ok()?;
     let mut images = Images::new();
     build(store, n, &classes, &mut images);
     if !images.complete(&classes, n) {

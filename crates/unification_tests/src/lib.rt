@@ -76,7 +76,7 @@ mod tests {
         let found = solve(&mut store, p, q).ok_or("not ready")?.ok_or("none")?;
         let before = found.get(19).ok_or("unbound")?;
         let last = make(&mut store, 1, &[before, before]).ok_or("full")?;
-        assert!(rt; found.get(20).ok_or("unbound")?.0 == last.0);
+        assert!(rt; found.get(20).ok_or("unbound")? == last);
         Ok(())
     }
 }

@@ -2,8 +2,9 @@
 ghost use Rattle.std.specs.Prelude.{Some, None};
 ghost use Rattle.store.specs.Stores.{Sound, Inside};
 
+use arrayvec::ArrayVec;
 use engine::types::Bindings;
-use store::{Place, Roots, Store};
+use store::{Full, Place, Roots, Store};
 use unification::{find_letters, unify};
 
 // A letter, or a sign with the number of its parts. In a row of symbols parts stand before their sign.
@@ -14,30 +15,23 @@ pub enum Symbol {
 }
 
 // Makes the letters below 32.
-fn make_letters(store: &mut Store, roots: &mut Roots) -> bool
+fn make_letters(store: &mut Store, roots: &mut Roots) -> Result<(), Full>
     requires { (Sound store.old) × (Inside store.old roots.old) }
     ensures { Sound store.new }
 {
     for x in 0..32 {
-        match store.make_letter(roots, x) {
-            Ok(()) => {}
-            Err(_) => return false,
-        }
+        store.make_letter(roots, x)?;
     }
-    true
+    Ok(())
 }
 
 // A store that has these letters.
 pub fn start<'a>(words: &'a mut [u32], cells: &mut [u32]) -> Option<Store<'a>>
     ensures { elim result [ Some st ↦ Sound st | None ↦ Unit {0} ] }
 {
-    let Some(mut store) = Store::open(words) else {
-        return None;
-    };
+    let mut store = Store::open(words)?;
     let mut roots = Roots::new(cells);
-    if !make_letters(&mut store, &mut roots) {
-        return None;
-    }
+    make_letters(&mut store, &mut roots).ok()?;
     Some(store)
 }
 
@@ -51,11 +45,11 @@ pub fn make(store: &mut Store, f: u32, parts: &[Place]) -> Option<Place>
         return None;
     }
     let mut places = [Place(0); 4];
-    for k in 0..n {
-        if parts[k].0 >= store.count {
+    for (k, &p) in parts.iter().enumerate() {
+        if p.0 >= store.count {
             return None;
         }
-        places[k] = parts[k];
+        places[k] = p;
     }
     Some(store.share_sign(f, places, n))
 }
@@ -67,10 +61,7 @@ pub fn letter(store: &Store, x: u32) -> Option<Place>
     if x >= 32 {
         return None;
     }
-    match find_letters(store) {
-        Some(letters) => letters.get(x),
-        None => None,
-    }
+    find_letters(store)?.get(x)
 }
 
 // The place of a letter, or of a sign whose parts are the last of these places.
@@ -90,25 +81,15 @@ pub fn read(store: &mut Store, row: &[Symbol]) -> Option<Place>
     requires { Sound store.old }
     ensures { Sound store.new }
 {
-    let mut built = [Place(0); 16];
-    let mut len = 0usize;
-    for i in 0..row.len() {
-        if len >= 16 {
-            return None;
+    let mut built = ArrayVec::<Place, 16>::new();
+    for &symbol in row {
+        let p = place_of(store, symbol, built.as_slice())?;
+        if let Symbol::S(_, n) = symbol {
+            built.truncate(built.len().checked_sub(n)?);
         }
-        let Some(p) = place_of(store, row[i], &built[..len]) else {
-            return None;
-        };
-        if let Symbol::S(_, n) = row[i] {
-            if n > len {
-                return None;
-            }
-            len -= n;
-        }
-        built[len] = p;
-        len += 1;
+        built.try_push(p).ok()?;
     }
-    Some(built[0])
+    built.first().copied()
 }
 
 // What unification says of the terms at two places.
@@ -116,9 +97,7 @@ pub fn solve(store: &mut Store, p: Place, q: Place) -> Option<Option<Bindings>>
     requires { Sound store.old }
     ensures { Sound store.new }
 {
-    let Some(letters) = find_letters(store) else {
-        return None;
-    };
+    let letters = find_letters(store)?;
     let n = store.count;
     if n > 96 || store.limit - n < 96 || p.0 >= n || q.0 >= n {
         return None;
@@ -149,7 +128,7 @@ pub fn becomes(left: &[Symbol], right: &[Symbol], x: u32, row: &[Symbol]) -> Opt
     let found = solve(&mut store, p, q)??;
     let put = found.get(x)?;
     let wanted = read(&mut store, row)?;
-    Some(put.0 == wanted.0)
+    Some(put == wanted)
 }
 
 // The terms f(x1, f(x2, .. x0)) and f(g(x0, x0), f(g(x1, x1), .. x0)), with n letters besides x0.
@@ -160,23 +139,11 @@ pub fn doubling(store: &mut Store, n: u32) -> Option<(Place, Place)>
     let mut p = letter(store, 0)?;
     let mut q = p;
     for i in (0..n).rev() {
-        let Some(x) = letter(store, i) else {
-            return None;
-        };
-        let Some(y) = letter(store, i + 1) else {
-            return None;
-        };
-        let Some(g) = make(store, 1, &[x, x]) else {
-            return None;
-        };
-        let Some(left) = make(store, 0, &[y, p]) else {
-            return None;
-        };
-        let Some(right) = make(store, 0, &[g, q]) else {
-            return None;
-        };
-        p = left;
-        q = right;
+        let x = letter(store, i)?;
+        let y = letter(store, i + 1)?;
+        let g = make(store, 1, &[x, x])?;
+        p = make(store, 0, &[y, p])?;
+        q = make(store, 0, &[g, q])?;
     }
     Some((p, q))
 }

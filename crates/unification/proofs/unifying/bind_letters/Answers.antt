@@ -1,7 +1,6 @@
 -- One letter more.
 use Rattle.std.proofs.Common.{◌<◌, is_some, sym, ap, ◌∙◌, subst, arith, length-set}
 use Rattle.store.specs.declared.types.Place.{Place}
-use Rattle.unification.specs.Classes.{label}
 use Rattle.unification.specs.Images.{image}
 use Rattle.unification.proofs.Built.{same_place}
 use Rattle.unification.proofs.Uniting.{letter_more}
@@ -15,20 +14,12 @@ known_by-requires c =
     let h = c.requires c.loop-x.x (omega arith) in
     subst (λ (p : Place). p.0 < 96) (same_place (sym h.1 ∙ sym c.get.ensures ∙ c.unwrap-p.ensures)) h.2
 
-pub get-requires-in-loop-x : goal.get-requires-in-loop-x
-get-requires-in-loop-x c =
-    let h = c.requires c.loop-x.x (omega arith) in
-    let k : label c.args.classes.now c.unwrap-p.result.0 < 96 =
-    subst (λ (p : Place). label c.args.classes.now p.0 < 96)
-    (same_place (sym h.1 ∙ sym c.get.ensures ∙ c.unwrap-p.ensures)) h.3 in
-    omega (arith, c.known_by.ensures)
-
 pub loop-x-preserved : goal.loop-x-preserved
 loop-x-preserved c = (
   simp length-set c.loop-x.invariant.0,
   letter_more c.args.letters.now c.args.classes.now c.args.images.now c.loop-x.bindings c.loop-x.x
       c.get-in-loop-x.result c.unwrap-p.result c.loop-x.invariant.0 (omega arith) (sym c.get.ensures ∙ c.unwrap-p.ensures)
-      (c.get-in-loop-x.ensures ∙ ap (image c.args.images.now) c.known_by.ensures) c.loop-x.invariant.1,
+      (c.get-in-loop-x.ensures ∙ ap (image c.args.images.now) c.known_by.ensures.label) c.loop-x.invariant.1,
 )
 
 pub returns : goal.returns

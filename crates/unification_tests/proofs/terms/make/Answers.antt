@@ -7,5 +7,5 @@ pub loop-k-preserved : goal.loop-k-preserved
 loop-k-preserved c = (
   simp length-set c.loop-k.invariant.0,
   inside_more c.args.store.now c.loop-k.places c.loop-k.k _ (omega (arith, c.loop-k.invariant.0)) c.loop-k.invariant.1
-      c.if-parts-k.false,
+      c.if-p-store.false,
 )

@@ -1,11 +1,14 @@
--- One place more.
-use Rattle.std.proofs.Common.{◌<◌, ◌≢◌, length, refl, arith, length-set, get_or-set_other, get_or-set_same, below_more}
+-- Each place is its own label.
+use Rattle.std.proofs.Common.{◌≡◌, ◌<◌, get_or, rules, arith}
 use Rattle.unification.proofs.types.Classes.new.Goals as goal
 
-pub loop-i-preserved : goal.loop-i-preserved
-loop-i-preserved c = (
-  simp length-set c.loop-i.invariant.0,
-  below_more _ _
-      (λ m h. let ne : m ≢ c.loop-i.i = omega arith in rw get_or-set_other (c.loop-i.invariant.1 m h))
-      (let lt : c.loop-i.i < length c.loop-i.labels = omega (arith, c.loop-i.invariant.0) in rw get_or-set_same refl),
-)
+pub invariant_of-result : goal.invariant_of-result
+invariant_of-result c = record {
+  low = λ i d l.
+      let k : i < 96 = omega (arith, c.from_fn.ensures.items.long) in
+      let h = c.from_fn.ensures.items.at i d k in
+      let e : (get_or c.from_fn.result i d).0 ≡ i = search (rules, h) in omega arith;
+}
+
+pub returns : goal.returns
+returns c i l = let h = c.from_fn.ensures.items.at i (record { 0 = 0 }) l in search (rules, h)

@@ -1,6 +1,6 @@
--- So far the first i places are relabelled.
+-- So far the first places are relabelled.
 use Rattle.unification.proofs.Labels.{RelabelledBelow}
 use Rattle.unification.proofs.types.Classes.relabel.Given as goal
 
-abbrev pub invariant-loop-i : goal.invariant-loop-i
-invariant-loop-i l = RelabelledBelow l.i l.initial.self l.a.0 l.b.0 l.self
+abbrev pub invariant-loop-label : goal.invariant-loop-label
+invariant-loop-label l = RelabelledBelow l.label-index l.initial.label-items l.a l.b l.label-items
