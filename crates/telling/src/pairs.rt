@@ -1,19 +1,19 @@
 // Pairs of terms from a text, each answered on a line.
 use crate::lines::{Lines, MOST_LINE};
 use crate::out::Out;
+use arguments::{Input, Stopped};
 use equal::Told;
-use inputs::Stopped;
 use lexing::fault::{Error, on_line};
 use lexing::pairs::{Line, Pair, read_pair};
 use notation::parse_pair;
 use notation::signature::Signature;
 use std::io::Read;
 
-// Where pairs come from: by which name they are told of, and the names of signs and letters, if they are not rows.
+// Where pairs come from: by which name messages tell of them, and the names of signs and letters, if they are not rows.
 #[derive(Clone, Copy)]
 pub struct Asking<'a> {
     pub rt: &'a HostRuntime,
-    pub name: &'a str,
+    pub input: Input<'a>,
     pub signature: Option<&'a Signature>,
 }
 
@@ -40,9 +40,9 @@ impl Asking<'_> {
             Ok(Line::Blank) => return Ok(false),
             Ok(Line::Long) => Told::Small,
             Err(e) => {
-                let name = self.name;
+                let input = self.input;
                 let fault = on_line(e, lines.number);
-                eprintln!(self.rt; "{name}:{fault}")?;
+                eprintln!(self.rt; "{input}:{fault}")?;
                 Told::NoTerm
             }
         };
@@ -58,9 +58,9 @@ impl Asking<'_> {
         out: &mut Out,
     ) -> Result<bool, Stopped> {
         if lines.too_long() {
-            let name = self.name;
+            let input = self.input;
             let number = lines.number.saturating_add(1);
-            eprintln!(self.rt; "{name}:{number}:1: expected a line of at most {MOST_LINE} bytes")?;
+            eprintln!(self.rt; "{input}:{number}:1: expected a line of at most {MOST_LINE} bytes")?;
             out.add(self.rt, Told::NoTerm)?;
         }
         out.flush(self.rt)?;
