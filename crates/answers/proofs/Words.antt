@@ -1,11 +1,9 @@
--- Answers are told from their words.
+-- An answer on a book is told from its line.
 use Rattle.std.proofs.Common.{◌≡◌, refl, ap}
 use Rattle.std.proofs.lemmas.Fmt.{decimal_is_IsNumeral}
 use Rattle.equal.specs.declared.types.Judged.{Judged}
 use Rattle.equal.specs.declared.types.Judged.TheVariants.{Settles, Up, Apart, Lost, Stray, NoBook, Room, Few}
-use Rattle.equal.specs.declared.types.Told.{Told}
-use Rattle.equal.specs.declared.types.Told.TheVariants.{Same, Different, Unsettled, NoTerm, Full, Unjudged, Small}
-use Rattle.answers.specs.Words.{judged_text, judged_from, told_text, told_from, Number}
+use Rattle.answers.specs.Words.{judged_text, judged_from, Number}
 
 pub judged_back : (a : Judged) → Number a → judged_from (judged_text a) ≡ a
 judged_back Settles n = refl
@@ -16,12 +14,3 @@ judged_back Stray n = refl
 judged_back NoBook n = refl
 judged_back Room n = refl
 judged_back Few n = refl
-
-pub told_back : (a : Told) → told_from (told_text a) ≡ a
-told_back Same = refl
-told_back Different = refl
-told_back Unsettled = refl
-told_back NoTerm = refl
-told_back Full = refl
-told_back Unjudged = refl
-told_back Small = refl

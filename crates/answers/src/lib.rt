@@ -8,8 +8,10 @@ use equal::{Judged, Told};
 use notation::Book;
 use printing::{equation_text, rule_text};
 use std::alloc::{AllocError, Global};
+use std::fmt::Display;
 
 // The line that says an answer on a book; the answer can be told from it.
+#[tactic(auto, using(crate::proofs::Words::judged_back))]
 pub fn judged_line(heap: Global, answer: Judged) -> Result<String, AllocError>
     ensures text { IfOk result (λ t. string_bytes t ≡ judged_text answer) }
     ensures back { Number answer → judged_from (judged_text answer) ≡ answer }
@@ -42,24 +44,16 @@ pub fn told_words(answer: Told) -> &'static str
     }
 }
 
-// A sentence on a rule, and the rule itself where there are names.
-fn on_rule(heap: Global, book: Option<&Book>, rule: usize) -> Result<String, AllocError> {
-    let Some(book) = book else {
-        return format!(in heap; "Rule {rule} does not go down, and all rules before it do.");
-    };
-    let text = rule_text(heap, book, rule)?;
-    format!(in heap; "Rule {rule} does not go down, and all rules before it do:\n  {text}")
-}
-
-// A sentence on an equation, and the equation itself where there are names.
-fn on_equation(heap: Global, book: Option<&Book>, equation: usize) -> Result<String, AllocError> {
-    let Some(book) = book else {
-        return format!(in heap;
-            "The rules do not bring the sides of equation {equation} together."
-        );
-    };
-    let text = equation_text(heap, book, equation)?;
-    format!(in heap; "The rules do not bring the sides of equation {equation} together:\n  {text}")
+// A sentence, and after it what it speaks of where that has names.
+fn sentence<D: Display + Drop>(
+    heap: Global,
+    says: D,
+    shown: Option<String>,
+) -> Result<String, AllocError> {
+    match shown {
+        Some(text) => format!(in heap; "{says}:\n  {text}"),
+        None => format!(in heap; "{says}."),
+    }
 }
 
 // What an answer on a book says, in plain words.
@@ -69,8 +63,20 @@ pub fn explanation(
     book: Option<&Book>,
 ) -> Result<String, AllocError> {
     let words = match answer {
-        Judged::Up(rule) => return on_rule(heap, book, rule),
-        Judged::Lost(equation) => return on_equation(heap, book, equation),
+        Judged::Up(rule) => {
+            let text = book.map(|book| rule_text(heap, book, rule)).transpose()?;
+            let says = format_args!("Rule {rule} does not go down, and all rules before it do");
+            return sentence(heap, says, text);
+        }
+        Judged::Lost(equation) => {
+            let text = book
+                .map(|book| equation_text(heap, book, equation))
+                .transpose()?;
+            let says = format_args!(
+                "The rules do not bring the sides of equation {equation} together"
+            );
+            return sentence(heap, says, text);
+        }
         Judged::Settles => {
             "Two terms are equal by the equations exactly if the rules bring both to the same last term."
         }

@@ -6,70 +6,41 @@ ghost use Rattle.arguments.specs.Requests.{Within};
 
 use std::fmt;
 
+mod program;
+
+pub use program::{Program, Stopped, run};
+
 // All buffers together have at most 4 MiB. Of these 768 KiB are for texts, rows, names and reading; the rest can be lent as work words, of
 // 4 bytes each.
 pub const MOST_WORK: usize = 851_968;
 
-// `judge` takes one file, a book; `tell` takes a book and then pairs of terms.
+// Where a text comes from.
 #[derive(Clone, Copy, PartialEq, Eq)]
-pub enum Program {
-    Judge,
-    Tell,
+pub enum Input<'a> {
+    Stdin,
+    File(&'a str),
 }
 
-// What is to be done.
+// The name by which messages tell of it.
+impl fmt::Display for Input<'_> {
+    fn fmt<W: fmt::Write>(&self, f: &mut fmt::Formatter<W>) -> fmt::Result {
+        f.write_str(match *self {
+            Input::Stdin => "<stdin>",
+            Input::File(name) => name,
+        })
+    }
+}
+
+// What is to be done. Where an input is not named, it is the standard input.
 #[derive(Clone, Copy)]
 pub struct Options<'a> {
     // whether books and terms come as decimal words
     pub rows: bool,
     // how many work words are lent
     pub work: usize,
-    // the book's file, or the standard input
-    pub book: Option<&'a str>,
-    // the file of the pairs, or the standard input
-    pub pairs: Option<&'a str>,
-}
-
-// Whether a file is the standard input.
-pub fn is_stdin(file: Option<&str>) -> bool {
-    matches!(file, None | Some("-"))
-}
-
-impl<'a> Options<'a> {
-    fn with_file(self, program: Program, name: &'a str) -> Result<Options<'a>, Refusal<'a>>
-        ensures { IfOk result (λ o. o.work ≡ self.entry.work) }
-    {
-        if name.starts_with('-') && name != "-" {
-            return Err(Refusal::UnknownOption(name));
-        }
-        let (book, pairs) = match (self.book, self.pairs) {
-            (None, _) => (Some(name), None),
-            (book, None) if program == Program::Tell => (book, Some(name)),
-            _ => return Err(Refusal::ExtraFile(name)),
-        };
-        Ok(Options {
-            rows: self.rows,
-            work: self.work,
-            book,
-            pairs,
-        })
-    }
-
-    // The same, if the program has all that it wants.
-    fn complete(self, program: Program) -> Result<Options<'a>, Refusal<'a>>
-        ensures { IfOk result (λ o. o.work ≡ self.entry.work) }
-    {
-        if program == Program::Judge {
-            return Ok(self);
-        }
-        if self.book.is_none() {
-            return Err(Refusal::NoBook);
-        }
-        if is_stdin(self.book) && is_stdin(self.pairs) {
-            return Err(Refusal::InputTwice);
-        }
-        Ok(self)
-    }
+    pub book: Option<Input<'a>>,
+    // the pairs of terms that `tell` compares
+    pub pairs: Option<Input<'a>>,
 }
 
 #[derive(Clone, Copy)]
@@ -83,6 +54,9 @@ pub enum Asked<'a> {
 #[derive(Clone, Copy)]
 pub enum Refusal<'a> {
     UnknownOption(&'a str),
+    // a file that `judge` has no use for
+    SecondFile(&'a str),
+    // one that another program has no use for
     ExtraFile(&'a str),
     NoBook,
     InputTwice,
@@ -96,6 +70,10 @@ impl fmt::Display for Refusal<'_> {
             Refusal::UnknownOption(option) => write!(
                 f,
                 "there is no option `{option}`; see --help"
+            ),
+            Refusal::SecondFile(file) => write!(
+                f,
+                "one file is judged at a time, and `{file}` is a second"
             ),
             Refusal::ExtraFile(file) => write!(f, "`{file}` is one file too many; see --help"),
             Refusal::NoBook => write!(f, "a book is wanted; see --help"),
@@ -112,16 +90,53 @@ impl fmt::Display for Refusal<'_> {
     }
 }
 
+// The input that a word names.
+fn named_input(word: &str) -> Result<Input<'_>, Refusal<'_>> {
+    if word == "-" {
+        Ok(Input::Stdin)
+    } else if word.starts_with('-') {
+        Err(Refusal::UnknownOption(word))
+    } else {
+        Ok(Input::File(word))
+    }
+}
+
 // The number of work words that the argument writes, if these fit.
 fn work_words(argument: Option<&String>) -> Result<usize, Refusal<'_>>
     ensures { IfOk result (λ n. n ≤ 851968) }
 {
-    let Some(digits) = argument else {
-        return Err(Refusal::NoNumber);
-    };
-    match digits.as_str().parse::<usize>() {
+    let digits = argument.ok_or(Refusal::NoNumber)?.as_str();
+    match digits.parse::<usize>() {
         Ok(n) if n <= MOST_WORK => Ok(n),
-        _ => Err(Refusal::BadNumber(digits.as_str())),
+        _ => Err(Refusal::BadNumber(digits)),
+    }
+}
+
+impl<'a> Options<'a> {
+    // Takes one more file, if the program has use for it.
+    fn add_file(&mut self, program: Program, word: &'a str) -> Result<(), Refusal<'a>>
+        ensures { self.new.work ≡ self.old.work }
+    {
+        let input = named_input(word)?;
+        match (self.book, self.pairs, program) {
+            (None, _, _) => self.book = Some(input),
+            (Some(_), None, Program::Tell) => self.pairs = Some(input),
+            (_, _, Program::Judge) => return Err(Refusal::SecondFile(word)),
+            _ => return Err(Refusal::ExtraFile(word)),
+        }
+        Ok(())
+    }
+
+    // Whether the program has all that it wants.
+    fn complete(&self, program: Program) -> Result<(), Refusal<'a>> {
+        if program != Program::Tell {
+            return Ok(());
+        }
+        let book = self.book.ok_or(Refusal::NoBook)?;
+        if book == Input::Stdin && self.pairs.unwrap_or(Input::Stdin) == Input::Stdin {
+            return Err(Refusal::InputTwice);
+        }
+        Ok(())
     }
 }
 
@@ -135,60 +150,81 @@ pub fn read_arguments(program: Program, arguments: &[String]) -> Result<Asked<'_
         book: None,
         pairs: None,
     };
-    let mut at = 0;
-    while at < arguments.len() {
-        match arguments[at].as_str() {
+    let mut rest = arguments.iter();
+    while let Some(argument) = rest.next() {
+        match argument.as_str() {
             "--help" => return Ok(Asked::Help),
             "--version" => return Ok(Asked::Version),
             "--rows" => options.rows = true,
-            "--work" => {
-                at += 1;
-                options.work = work_words(arguments.get(at))?;
-            }
-            other => options = options.with_file(program, other)?,
+            "--work" => options.work = work_words(rest.next())?,
+            file => options.add_file(program, file)?,
         }
-        at += 1;
     }
-    Ok(Asked::Run(options.complete(program)?))
+    options.complete(program)?;
+    Ok(Asked::Run(options))
 }
 
 #[cfg(test)]
 mod tests {
     use super::*;
+    use std::alloc::Global;
     use std::test::Fail;
+
+    // Arguments of `judge`, one to a line, and what is told of them.
+    const OF_JUDGE: [(&str, &str); 9] = [
+        ("", "judge: rows false, work 851968, no file"),
+        (
+            "--rows\nsums.book\n--work\n20000",
+            "judge: rows true, work 20000, sums.book",
+        ),
+        ("-", "judge: rows false, work 851968, -"),
+        ("--rows\n--help\n--foo", "help"),
+        ("--version", "version"),
+        ("--foo", "there is no option `--foo`; see --help"),
+        ("a\nb", "one file is judged at a time, and `b` is a second"),
+        ("a\n--work", "--work wants a number after it"),
+        (
+            "--work\n851969",
+            "--work wants a number up to 851968, and `851969` is none",
+        ),
+    ];
 
     // A program, its arguments, one to a line, and what is told of them.
     const ASKED: [(Program, &str, &str); 14] = [
         (
-            Program::Judge,
+            Program::JudgeInFull,
             "",
             "rows false, work 851968, no file, no file",
         ),
         (
-            Program::Judge,
+            Program::JudgeInFull,
             "--rows\nsums.book\n--work\n20000",
             "rows true, work 20000, sums.book, no file",
         ),
-        (Program::Judge, "-", "rows false, work 851968, -, no file"),
-        (Program::Judge, "--rows\n--help\n--foo", "help"),
+        (
+            Program::JudgeInFull,
+            "-",
+            "rows false, work 851968, -, no file",
+        ),
+        (Program::JudgeInFull, "--rows\n--help\n--foo", "help"),
         (Program::Tell, "--version", "version"),
         (
-            Program::Judge,
+            Program::JudgeInFull,
             "--foo",
             "there is no option `--foo`; see --help",
         ),
         (
-            Program::Judge,
+            Program::JudgeInFull,
             "a\nb",
             "`b` is one file too many; see --help",
         ),
         (
-            Program::Judge,
+            Program::JudgeInFull,
             "a\n--work",
             "--work wants a number after it",
         ),
         (
-            Program::Judge,
+            Program::JudgeInFull,
             "--work\n851969",
             "--work wants a number up to 851968, and `851969` is none",
         ),
@@ -207,33 +243,52 @@ mod tests {
         ),
     ];
 
+    // What the arguments, one to a line, ask a program for.
+    fn asked(heap: Global, program: Program, lines: &str) -> Result<String, Fail> {
+        let mut words = Vec::new(heap);
+        for line in lines.lines() {
+            words.push(String::from_str(heap, line)?)?;
+        }
+        match read_arguments(program, words.as_slice()) {
+            Ok(Asked::Help) => Ok(String::from_str(heap, "help")?),
+            Ok(Asked::Version) => Ok(String::from_str(heap, "version")?),
+            Ok(Asked::Run(options)) => Ok(shown(heap, program, options)?),
+            Err(refusal) => Ok(refusal.to_string(heap)?),
+        }
+    }
+
+    // An input by the word that names it.
+    fn word(input: Option<Input<'_>>) -> &str {
+        match input {
+            None => "no file",
+            Some(Input::Stdin) => "-",
+            Some(Input::File(name)) => name,
+        }
+    }
+
+    fn shown(heap: Global, program: Program, options: Options<'_>) -> Result<String, Fail> {
+        let Options { rows, work, .. } = options;
+        let (book, pairs) = (word(options.book), word(options.pairs));
+        if program == Program::Judge {
+            Ok(format!(in heap; "judge: rows {rows}, work {work}, {book}")?)
+        } else {
+            Ok(format!(in heap; "rows {rows}, work {work}, {book}, {pairs}")?)
+        }
+    }
+
+    #[test]
+    fn arguments_of_judge(rt: HostRuntime) -> Result<(), Fail> {
+        for (lines, wanted) in OF_JUDGE.iter() {
+            let found = asked(rt.alloc(), Program::Judge, lines)?;
+            assert_eq!(rt; found.as_str(), *wanted);
+        }
+        Ok(())
+    }
+
     #[test]
     fn arguments(rt: HostRuntime) -> Result<(), Fail> {
-        let heap = rt.alloc();
         for (program, lines, wanted) in ASKED.iter() {
-            let mut words = Vec::new(heap);
-            for line in lines.lines() {
-                words.push(String::from_str(heap, line)?)?;
-            }
-            let found = match read_arguments(*program, words.as_slice()) {
-                Ok(Asked::Help) => String::from_str(heap, "help")?,
-                Ok(Asked::Version) => String::from_str(heap, "version")?,
-                Ok(
-                    Asked::Run(
-                        Options {
-                            rows,
-                            work,
-                            book,
-                            pairs,
-                        },
-                    ),
-                ) => {
-                    let book = book.unwrap_or("no file");
-                    let pairs = pairs.unwrap_or("no file");
-                    format!(in heap; "rows {rows}, work {work}, {book}, {pairs}")?
-                }
-                Err(refusal) => refusal.to_string(heap)?,
-            };
+            let found = asked(rt.alloc(), *program, lines)?;
             assert_eq!(rt; found.as_str(), *wanted);
         }
         Ok(())

@@ -1,31 +1,17 @@
 // How the programs read a book: from a file or the standard input, in the readable form or as rows.
 #![tactic(auto)]
 
+use arguments::{Input, Program, Stopped};
 use lexing::fault::{Error, Place, place_after};
 use lexing::{Rows, read_rows};
 use notation::{Book, parse};
-use std::alloc::{AllocError, Global};
+use std::alloc::Global;
 use std::fs::File;
-use std::io;
 use std::io::Read;
+use std::{fmt, io};
 
 // The longest text that is read, in bytes.
 pub const MOST_TEXT: usize = 262_144;
-
-// The program ends with status 1. Why has been told on the standard error.
-pub struct Stopped;
-
-impl From<io::Error> for Stopped {
-    fn from(_e: io::Error) -> Stopped {
-        Stopped
-    }
-}
-
-impl From<AllocError> for Stopped {
-    fn from(_e: AllocError) -> Stopped {
-        Stopped
-    }
-}
 
 // A book with its names, or any words.
 #[derive(Drop)]
@@ -67,10 +53,56 @@ pub enum Trouble {
     Text(Error),
 }
 
+impl From<io::Error> for Trouble {
+    fn from(e: io::Error) -> Trouble {
+        Trouble::Io(e)
+    }
+}
+
 impl From<Error> for Trouble {
     fn from(e: Error) -> Trouble {
         Trouble::Text(e)
     }
+}
+
+// What a program says of trouble with an input: with the place in the text where there is one.
+#[derive(Drop)]
+struct Complaint<'a> {
+    program: Program,
+    input: Input<'a>,
+    trouble: Trouble,
+}
+
+impl fmt::Display for Complaint<'_> {
+    fn fmt<W: fmt::Write>(&self, f: &mut fmt::Formatter<W>) -> fmt::Result {
+        let Complaint {
+            program,
+            input,
+            trouble,
+        } = self;
+        match trouble {
+            Trouble::Io(e) => write!(f, "{program}: {input}: {e}"),
+            Trouble::TooLong => write!(
+                f,
+                "{program}: {input}: the text has more than {MOST_TEXT} bytes"
+            ),
+            Trouble::NoUtf8(Place { line, column }) => {
+                write!(f, "{input}:{line}:{column}: expected UTF-8")
+            }
+            Trouble::Text(e) => write!(f, "{input}:{e}"),
+        }
+    }
+}
+
+// Tells on the standard error why nothing was read. Where that fails too, the program stops all the same.
+pub fn complain(rt: &HostRuntime, program: Program, input: Input<'_>, trouble: Trouble) -> Stopped {
+    let complaint = Complaint {
+        program,
+        input,
+        trouble,
+    };
+    let _ = eprintln!(rt; "{complaint}");
+    Stopped
 }
 
 // All that the reader gives, but not much more than the longest text.
@@ -80,10 +112,10 @@ fn read_all<R: Read + Drop>(heap: Global, reader: R) -> io::Result<Vec<u8>> {
     Ok(bytes)
 }
 
-fn read_input(rt: &HostRuntime, file: Option<&str>) -> io::Result<Vec<u8>> {
-    match file {
-        None | Some("-") => read_all(rt.alloc(), rt.stdin()),
-        Some(name) => read_all(rt.alloc(), File::open(rt, name)?),
+fn read_input(rt: &HostRuntime, input: Input<'_>) -> io::Result<Vec<u8>> {
+    match input {
+        Input::Stdin => read_all(rt.alloc(), rt.stdin()),
+        Input::File(name) => read_all(rt.alloc(), File::open(rt, name)?),
     }
 }
 
@@ -92,13 +124,9 @@ pub fn source_of(heap: Global, bytes: &[u8], rows: bool) -> Result<Source, Troub
     if bytes.len() > MOST_TEXT {
         return Err(Trouble::TooLong);
     }
-    let text = match std::str::from_utf8(bytes) {
-        Ok(text) => text,
-        Err(e) => {
-            let valid = &bytes[0..e.valid_up_to().min(bytes.len())];
-            return Err(Trouble::NoUtf8(place_after(valid)));
-        }
-    };
+    let text = std::str::from_utf8(bytes).map_err(|e| Trouble::NoUtf8(place_after(
+        &bytes[0..e.valid_up_to()],
+    )))?;
     if rows {
         Ok(Source::Rows(read_rows(heap, text)?))
     } else {
@@ -106,38 +134,8 @@ pub fn source_of(heap: Global, bytes: &[u8], rows: bool) -> Result<Source, Troub
     }
 }
 
-// Reads a book from a file, or from the standard input.
-pub fn read_source(rt: &HostRuntime, file: Option<&str>, rows: bool) -> Result<Source, Trouble> {
-    match read_input(rt, file) {
-        Ok(bytes) => source_of(rt.alloc(), bytes.as_slice(), rows),
-        Err(e) => Err(Trouble::Io(e)),
-    }
-}
-
-// The name by which a file is told of.
-pub fn name_of(file: Option<&str>) -> &str {
-    match file {
-        None | Some("-") => "<stdin>",
-        Some(name) => name,
-    }
-}
-
-// Tells why nothing was read, with the place in the text where there is one.
-pub fn complain(
-    rt: &HostRuntime,
-    program: &str,
-    file: Option<&str>,
-    trouble: Trouble,
-) -> io::Result<()> {
-    let name = name_of(file);
-    match trouble {
-        Trouble::Io(e) => eprintln!(rt; "{program}: {name}: {e}"),
-        Trouble::TooLong => eprintln!(rt;
-            "{program}: {name}: the text has more than {MOST_TEXT} bytes"
-        ),
-        Trouble::NoUtf8(Place { line, column }) => {
-            eprintln!(rt; "{name}:{line}:{column}: expected UTF-8")
-        }
-        Trouble::Text(e) => eprintln!(rt; "{name}:{e}"),
-    }
+// Reads a book.
+pub fn read_source(rt: &HostRuntime, input: Input<'_>, rows: bool) -> Result<Source, Trouble> {
+    let bytes = read_input(rt, input)?;
+    source_of(rt.alloc(), bytes.as_slice(), rows)
 }

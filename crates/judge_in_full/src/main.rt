@@ -2,11 +2,10 @@
 #![tactic(auto)]
 
 use answers::{explanation, judged_line};
-use arguments::{Asked, Options, Program, read_arguments};
+use arguments::{Input, Options, Program, Stopped, run};
 use equal::{Judged, judge};
-use inputs::{Source, Stopped, complain, read_source};
+use inputs::{Source, complain, read_source};
 use std::alloc::AllocError;
-use std::env;
 use std::process::ExitCode;
 
 const HELP: &str = "Usage: judge_in_full [--rows] [--work N] [FILE]
@@ -24,44 +23,26 @@ fn answer(rt: &HostRuntime, source: &Source, work: usize) -> Result<Judged, Allo
 }
 
 // Prints the answer on a line, and what it says.
-fn print_answer(rt: &HostRuntime, source: &Source, answer: Judged) -> Result<(), Stopped> {
+fn judge_file(rt: &HostRuntime, options: Options<'_>) -> Result<(), Stopped> {
+    let book = options.book.unwrap_or(Input::Stdin);
+    let source = read_source(rt, book, options.rows).map_err(|trouble| complain(
+        rt,
+        Program::JudgeInFull,
+        book,
+        trouble,
+    ))?;
+    let answer = answer(rt, &source, options.work)?;
     let line = judged_line(rt.alloc(), answer)?;
     let words = explanation(rt.alloc(), answer, source.named())?;
     println!(rt; "{line}\n{words}")?;
     Ok(())
 }
 
-fn judge_file(rt: &HostRuntime, options: Options<'_>) -> Result<(), Stopped> {
-    match read_source(rt, options.book, options.rows) {
-        Ok(source) => {
-            let answer = answer(rt, &source, options.work)?;
-            print_answer(rt, &source, answer)
-        }
-        Err(trouble) => {
-            complain(rt, "judge_in_full", options.book, trouble)?;
-            Err(Stopped)
-        }
-    }
-}
-
-fn run(rt: &HostRuntime) -> Result<(), Stopped> {
-    let arguments: Vec<String> = env::args(rt)?.skip(1).collect(rt.alloc())?;
-    match read_arguments(Program::Judge, arguments.as_slice()) {
-        Ok(Asked::Help) => println!(rt; "{HELP}")?,
-        Ok(Asked::Version) => println!(rt; "judge_in_full 0.1.0")?,
-        Ok(Asked::Run(options)) => judge_file(rt, options)?,
-        Err(refusal) => {
-            eprintln!(rt; "judge_in_full: {refusal}")?;
-            return Err(Stopped);
-        }
-    }
-    Ok(())
-}
-
-// An error of `main` would be told once more, and so it gives the status alone.
 fn main(rt: HostRuntime) -> ExitCode {
-    match run(&rt) {
-        Ok(()) => ExitCode::SUCCESS,
-        Err(Stopped) => ExitCode::FAILURE,
-    }
+    run(
+        &rt,
+        Program::JudgeInFull,
+        HELP,
+        |options| judge_file(&rt, options),
+    )
 }

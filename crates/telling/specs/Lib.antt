@@ -1,1 +1,2 @@
 -- Comparing pairs: the definitions that the contracts cite.
+pub mod Session

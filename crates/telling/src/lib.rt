@@ -3,7 +3,6 @@
 
 mod answer;
 mod lines;
-mod out;
 mod pairs;
 mod session;
 

@@ -1,109 +1,64 @@
 // Lines of a text that comes in blocks.
-ghost use Rattle.std.specs.Prelude.{◌≡◌, ◌≤◌, length};
-
-use lexing::line_end;
-use std::alloc::{AllocError, Global};
+use std::alloc::Global;
 use std::io;
-use std::io::Read;
+use std::io::{BufRead, BufReader, Read};
 
 // The longest line, with its end, in bytes.
 pub(crate) const MOST_LINE: usize = 262_144;
 
 // How many bytes are read at once.
-const BLOCK: usize = 65_536;
+const BLOCK: usize = 32_768;
 
-// A text of which the bytes from `start` to `end` of the buffer are read and not yet handed on.
+// What comes next in a text. Lines are numbered from 1.
+#[derive(Clone, Copy)]
+pub(crate) enum Next<'a> {
+    // a line without its end
+    Line(usize, &'a [u8]),
+    // the beginning of a line that is too long
+    TooLong(usize),
+    End,
+}
+
 #[derive(Drop)]
-pub(crate) struct Lines {
-    buffer: Vec<u8>,
-    start: usize,
-    end: usize,
-    // the number of the last line that was handed on, from 1
-    pub(crate) number: usize,
-    // whether what is held continues a line that was too long
-    skipping: bool,
+pub(crate) struct Lines<R> {
+    reader: BufReader<R>,
+    line: Vec<u8>,
+    // the number of the last line
+    number: usize,
 }
 
-// Copies the bytes between two places to the front.
-fn move_front(bytes: &mut [u8], start: usize, end: usize)
-    requires { (start ≤ end) × (end ≤ length bytes.old) }
-    ensures { length bytes.new ≡ length bytes.old }
-{
-    for i in 0..end - start {
-        bytes[i] = bytes[start + i];
-    }
-}
-
-impl Lines {
-    pub(crate) fn new(heap: Global) -> Result<Lines, AllocError> {
+impl<R: Read + Drop> Lines<R> {
+    pub(crate) fn new(heap: Global, reader: R) -> io::Result<Lines<R>> {
         Ok(Lines {
-            buffer: vec![in heap; 0u8; MOST_LINE]?,
-            start: 0,
-            end: 0,
+            reader: BufReader::with_capacity(heap, BLOCK, reader)?,
+            line: Vec::with_capacity(heap, MOST_LINE)?,
             number: 0,
-            skipping: false,
         })
     }
 
-    // The next whole line, by the places where it begins and ends in the buffer.
-    pub(crate) fn next(&mut self) -> Option<(usize, usize)> {
-        let end = self.end.min(self.buffer.len());
-        let stop = line_end(&self.buffer.as_slice()[0..end], self.start);
-        if stop >= end {
-            return None;
-        }
-        let start = if self.skipping { stop } else { self.start };
-        self.skipping = false;
-        self.start = stop + 1;
-        self.number = self.number.saturating_add(1);
-        Some((start, stop))
+    // Whether the next line has been read, so that nothing has to be waited for.
+    pub(crate) fn is_at_hand(&self) -> bool {
+        self.reader.buffer().contains(&b'\n')
     }
 
-    // What is left at the end of the text, as a line.
-    pub(crate) fn last(&mut self) -> Option<(usize, usize)> {
-        let (start, end) = (self.start, self.end);
-        self.start = end;
-        if start >= end || self.skipping {
-            return None;
+    pub(crate) fn next(&mut self) -> io::Result<Next<'_>> {
+        self.line.clear();
+        let mut reader = self.reader.by_ref().take(MOST_LINE as u64);
+        let count = reader.read_until(b'\n', &mut self.line)?;
+        if count == 0 {
+            return Ok(Next::End);
         }
         self.number = self.number.saturating_add(1);
-        Some((start, end))
-    }
-
-    // The bytes between two places.
-    pub(crate) fn between(&self, start: usize, end: usize) -> &[u8] {
-        self.buffer.as_slice().get(start..end).unwrap_or(b"")
-    }
-
-    // Whether the buffer is full of one line that is not whole. It is then skipped, and told once.
-    pub(crate) fn too_long(&mut self) -> bool {
-        if self.start > 0 || self.end < self.buffer.len() {
-            return false;
+        match self.line.as_slice().strip_suffix(b"\n") {
+            Some(line) => Ok(Next::Line(self.number, line)),
+            None if count == MOST_LINE => Ok(Next::TooLong(self.number)),
+            None => Ok(Next::Line(self.number, self.line.as_slice())),
         }
-        self.end = 0;
-        if self.skipping {
-            return false;
-        }
-        self.skipping = true;
-        true
     }
 
-    // Moves what is held to the front of the buffer.
-    fn shift(&mut self) {
-        let end = self.end.min(self.buffer.len());
-        let start = self.start.min(end);
-        move_front(self.buffer.as_mut_slice(), start, end);
-        self.start = 0;
-        self.end = end - start;
-    }
-
-    // Reads a block behind what is held; whether the text went on.
-    pub(crate) fn fill<R: Read>(&mut self, reader: &mut R) -> io::Result<bool> {
-        self.shift();
-        let from = self.end.min(self.buffer.len());
-        let to = from.saturating_add(BLOCK).min(self.buffer.len());
-        let count = reader.read(&mut self.buffer.as_mut_slice()[from..to])?;
-        self.end = from.saturating_add(count);
-        Ok(count > 0)
+    // Skips what is left of a line that is too long.
+    pub(crate) fn skip(&mut self) -> io::Result<()> {
+        self.reader.skip_until(b'\n')?;
+        Ok(())
     }
 }

@@ -1,19 +1,23 @@
 // Pairs of terms from a text, each answered on a line.
-use crate::lines::{Lines, MOST_LINE};
-use crate::out::Out;
+use crate::lines::{Lines, MOST_LINE, Next};
+use answers::told_words;
+use arguments::{Input, Stopped};
 use equal::Told;
-use inputs::Stopped;
 use lexing::fault::{Error, on_line};
 use lexing::pairs::{Line, Pair, read_pair};
 use notation::parse_pair;
 use notation::signature::Signature;
-use std::io::Read;
+use std::io;
+use std::io::{BufWriter, Read, Stdout, Write};
 
-// Where pairs come from: by which name they are told of, and the names of signs and letters, if they are not rows.
+// How many bytes of answers are held at most.
+const BLOCK: usize = 32_768;
+
+// Where pairs come from: by which name messages tell of them, and the names of signs and letters, if they are not rows.
 #[derive(Clone, Copy)]
 pub struct Asking<'a> {
     pub rt: &'a HostRuntime,
-    pub name: &'a str,
+    pub input: Input<'a>,
     pub signature: Option<&'a Signature>,
 }
 
@@ -25,73 +29,71 @@ impl Asking<'_> {
             None => read_pair(self.rt.alloc(), line, pair),
         }
     }
+}
 
-    // Takes the line between two places; whether it has a pair. What has none is answered, if it is not blank.
-    fn take_line(
-        self,
-        lines: &Lines,
-        place: (usize, usize),
-        pair: &mut Pair,
-        out: &mut Out,
-    ) -> Result<bool, Stopped> {
-        let (start, end) = place;
-        let answer = match self.read(lines.between(start, end), pair) {
-            Ok(Line::Pair) => return Ok(true),
-            Ok(Line::Blank) => return Ok(false),
-            Ok(Line::Long) => Told::Small,
-            Err(e) => {
-                let name = self.name;
-                let fault = on_line(e, lines.number);
-                eprintln!(self.rt; "{name}:{fault}")?;
-                Told::NoTerm
-            }
-        };
-        out.add(self.rt, answer)?;
-        Ok(false)
+// The pairs of a text, and the answers to them.
+#[derive(Drop)]
+pub(crate) struct Pairs<'a, R> {
+    asking: Asking<'a>,
+    lines: Lines<R>,
+    pair: Pair,
+    out: BufWriter<Stdout>,
+}
+
+impl<'a, R: Read + Drop> Pairs<'a, R> {
+    pub(crate) fn new(asking: Asking<'a>, reader: R) -> Result<Pairs<'a, R>, Stopped> {
+        let heap = asking.rt.alloc();
+        Ok(Pairs {
+            asking,
+            lines: Lines::new(heap, reader)?,
+            pair: Pair::new(heap)?,
+            out: BufWriter::with_capacity(heap, BLOCK, asking.rt.stdout())?,
+        })
     }
 
-    // Writes all answers, since reading may take long, and goes on with the text; whether there is more of it.
-    fn more<R: Read>(
-        self,
-        reader: &mut R,
-        lines: &mut Lines,
-        out: &mut Out,
-    ) -> Result<bool, Stopped> {
-        if lines.too_long() {
-            let name = self.name;
-            let number = lines.number.saturating_add(1);
-            eprintln!(self.rt; "{name}:{number}:1: expected a line of at most {MOST_LINE} bytes")?;
-            out.add(self.rt, Told::NoTerm)?;
-        }
-        out.flush(self.rt)?;
-        Ok(lines.fill(reader)?)
+    // Writes an answer on a line of its own, once there are more of them or `flush` is called.
+    pub(crate) fn answer(&mut self, told: Told) -> io::Result<()> {
+        writeln!(self.out, "{}", told_words(told))
     }
 
-    // Goes on to the next pair; whether there is one. Lines before it that have none are answered.
-    pub(crate) fn next_pair<R: Read>(
-        self,
-        reader: &mut R,
-        lines: &mut Lines,
-        pair: &mut Pair,
-        out: &mut Out,
-    ) -> Result<bool, Stopped> {
+    // Writes all answers that are held.
+    pub(crate) fn flush(&mut self) -> io::Result<()> {
+        self.out.flush()
+    }
+
+    // Answers a line that is too long, and goes on behind it.
+    fn skip_line(&mut self, number: usize) -> Result<(), Stopped> {
+        let Asking { rt, input, .. } = self.asking;
+        eprintln!(rt; "{input}:{number}:1: expected a line of at most {MOST_LINE} bytes")?;
+        self.answer(Told::NoTerm)?;
+        self.flush()?;
+        self.lines.skip()?;
+        Ok(())
+    }
+
+    // The next pair. Lines before it that have none are answered, if they are not blank. Since reading may take long, all answers are
+    // written before.
+    pub(crate) fn next(&mut self) -> Result<Option<&Pair>, Stopped> {
         for _turn in 0..u64::MAX {
-            let place = match lines.next() {
-                Some(place) => place,
-                None => {
-                    if self.more(reader, lines, out)? {
-                        continue;
+            if !self.lines.is_at_hand() {
+                self.flush()?;
+            }
+            match self.lines.next()? {
+                Next::End => break,
+                Next::TooLong(number) => self.skip_line(number)?,
+                Next::Line(number, line) => match self.asking.read(line, &mut self.pair) {
+                    Ok(Line::Pair) => return Ok(Some(&self.pair)),
+                    Ok(Line::Blank) => {}
+                    Ok(Line::Long) => self.answer(Told::Small)?,
+                    Err(e) => {
+                        let Asking { rt, input, .. } = self.asking;
+                        let fault = on_line(e, number);
+                        eprintln!(rt; "{input}:{fault}")?;
+                        self.answer(Told::NoTerm)?;
                     }
-                    match lines.last() {
-                        Some(place) => place,
-                        None => break,
-                    }
-                }
-            };
-            if self.take_line(lines, place, pair, out)? {
-                return Ok(true);
+                },
             }
         }
-        Ok(false)
+        Ok(None)
     }
 }

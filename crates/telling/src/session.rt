@@ -1,22 +1,38 @@
 // All pairs of a text, by one book.
 ghost use Rattle.std.specs.Prelude.{◌≡◌, ◌≢◌};
-ghost use Rattle.engine.specs.Meeting.{Ample, Working};
-ghost use Rattle.engine.specs.Meeting.{most_parts};
 ghost use Rattle.equal.specs.declared.types.Judged.TheVariants.{Settles};
-ghost use Rattle.equal.specs.Promises.{JudgedSays, JudgedPost};
+ghost use Rattle.equal.specs.Promises.{JudgedPost, ToldPost};
+ghost use Rattle.telling.specs.Session.{Ready};
 
 use crate::answer::{Given, refused_answer, settled_answer};
-use crate::lines::Lines;
-use crate::out::Out;
-use crate::pairs::Asking;
+use crate::pairs::{Asking, Pairs};
+use arguments::Stopped;
 use engine::types::Frames;
 use engine::work::{Work, share_out};
 use equal::judging::judge_in;
-use equal::{Judged, Settled, too_few};
-use inputs::Stopped;
-use lexing::pairs::Pair;
+use equal::{Judged, Settled, Told, too_few};
 use std::io::Read;
 use store::{Roots, Store};
+
+// Answers each pair of a text.
+fn tell_each<R: Read, F: FnMut(&[u32], &[u32]) -> Told>(
+    asking: Asking<'_>,
+    reader: &mut R,
+    mut tell: F,
+) -> Result<(), Stopped>
+    requires { F.IsAlwaysCallable tell }
+{
+    let mut pairs = Pairs::new(asking, reader)?;
+    for _turn in 0..u64::MAX {
+        let Some(pair) = pairs.next()? else {
+            break;
+        };
+        let told = tell(pair.one.as_slice(), pair.other.as_slice());
+        pairs.answer(told)?;
+    }
+    pairs.flush()?;
+    Ok(())
+}
 
 // Answers all pairs, by a book that does not settle its equations, or of which that can't be told.
 fn tell_refused<R: Read>(
@@ -27,19 +43,14 @@ fn tell_refused<R: Read>(
 ) -> Result<(), Stopped>
     requires { (JudgedPost given.book.now given.ways.now given.work judged) × ((judged ≢ Settles)) }
 {
-    let heap = asking.rt.alloc();
-    let mut lines = Lines::new(heap)?;
-    let mut pair = Pair::new(heap)?;
-    let mut out = Out::new(heap)?;
-    for _turn in 0..u64::MAX {
-        if !asking.next_pair(reader, &mut lines, &mut pair, &mut out)? {
-            break;
-        }
-        let answer = refused_answer(given, judged, pair.one.as_slice(), pair.other.as_slice());
-        out.add(asking.rt, answer)?;
-    }
-    out.flush(asking.rt)?;
-    Ok(())
+    tell_each(
+        asking,
+        reader,
+        |one: &[u32], other: &[u32]|
+            requires { (JudgedPost given.book.now given.ways.now given.work judged) × ((judged ≢ Settles)) }
+            ensures { ToldPost given.entry.book.now given.entry.ways.now one.now other.now given.entry.work result }
+        { refused_answer(given, judged, one, other) },
+    )
 }
 
 // Answers all pairs, by a book that settles its equations.
@@ -52,32 +63,17 @@ fn tell_settled<R: Read>(
     roots: &mut Roots,
     frames: &mut Frames,
 ) -> Result<(), Stopped>
-    requires settles { JudgedSays given.book.now given.ways.now Settles }
-    requires book { settled.now.book.words.now ≡ given.book.now }
-    requires working { (Working settled.now.book store.old) × (roots.old.top ≡ 0) }
-    requires ample { Ample (most_parts given.work) store.old roots.old frames.old }
+    requires { Ready given settled.now.book store.old roots.old frames.old }
 {
-    let heap = asking.rt.alloc();
-    let mut lines = Lines::new(heap)?;
-    let mut pair = Pair::new(heap)?;
-    let mut out = Out::new(heap)?;
-    for _turn in 0..u64::MAX {
-        if !asking.next_pair(reader, &mut lines, &mut pair, &mut out)? {
-            break;
-        }
-        let answer = settled_answer(
-            given,
-            settled,
-            pair.one.as_slice(),
-            pair.other.as_slice(),
-            store,
-            roots,
-            frames,
-        );
-        out.add(asking.rt, answer)?;
-    }
-    out.flush(asking.rt)?;
-    Ok(())
+    tell_each(
+        asking,
+        reader,
+        |one: &[u32], other: &[u32]|
+            requires { Ready given settled.now.book store.now roots.now frames.now }
+            ensures ready { Ready given.exit settled.exit.now.book store.exit.now roots.exit.now frames.exit.now }
+            ensures told { ToldPost given.entry.book.now given.entry.ways.now one.now other.now given.entry.work result }
+        { settled_answer(given, settled, one, other, store, roots, frames) },
+    )
 }
 
 // Judges the book, and answers all pairs that the reader gives.

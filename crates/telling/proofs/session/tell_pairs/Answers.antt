@@ -34,7 +34,8 @@ tell_settled-requires g c =
     record {
       settles = found.says;
       book = same;
-      working = (idle.working, idle.none);
+      working = idle.working;
+      none = idle.none;
       ample = ample_kept k.book share.store share.roots share.frames c.judge_in.new.store c.judge_in.new.roots
           c.judge_in.new.frames idle (most_parts w) fresh.ample;
     }

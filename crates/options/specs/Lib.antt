@@ -1,2 +1,0 @@
--- What the contracts of the command line cite.
-pub mod Requests
