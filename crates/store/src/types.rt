@@ -19,39 +19,39 @@ pub struct Roots<'a> {
 }
 
 // Where a term stands: the number of its slot.
-#[derive(Clone, Copy)]
+#[derive(Clone, Copy, Debug, PartialEq, Eq, Default)]
 pub struct Place(pub usize);
 
 // What stands at a place: a letter, or a sign and how many parts it has.
-#[derive(Clone, Copy)]
+#[derive(Clone, Copy, Debug, PartialEq, Eq)]
 pub enum Node {
     Letter(u32),
     Sign(u32, usize),
 }
 
 // Which of the roots that become parts is the first part: the lowest or the uppermost.
-#[derive(Clone, Copy)]
+#[derive(Clone, Copy, Debug, PartialEq, Eq)]
 pub enum Order {
     Up,
     Down,
 }
 
 // What was wanting: a slot for a term, or a cell for a root.
-#[derive(Clone, Copy)]
+#[derive(Clone, Copy, Debug, PartialEq, Eq)]
 pub enum Full {
     NoSlot,
     NoRoot,
 }
 
 // What was wanting to write a row: a word for it, or a cell for a root.
-#[derive(Clone, Copy)]
+#[derive(Clone, Copy, Debug, PartialEq, Eq)]
 pub enum Short {
     NoWord,
     NoCell,
 }
 
 // What a slot is found by: its head and the numbers of its parts' slots.
-#[derive(Clone, Copy)]
+#[derive(Clone, Copy, Debug, PartialEq, Eq)]
 pub struct Key {
     pub head: usize,
     pub parts: [usize; 4],

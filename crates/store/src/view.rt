@@ -42,7 +42,7 @@ impl Store<'_> {
         ensures yes { result ≡ true → term_in self.now p.0 ≡ term_in self.now q.0 }
         ensures no { result ≡ false → term_in self.now p.0 ≢ term_in self.now q.0 }
     {
-        p.0 == q.0
+        p == q
     }
 
     // Whether the term at a place is known to be normal.
