@@ -27,7 +27,6 @@ pub fn only_difference(store: &Store, p: Place, q: Place) -> Option<usize>
         return None;
     };
     let k = first_difference(store, p, q, 0, n)?;
-    first_difference(store, p, q, k + 1, n)
-        .is_none()
-        .then_some(k)
+    let later = first_difference(store, p, q, k + 1, n);
+    later.is_none().then_some(k)
 }

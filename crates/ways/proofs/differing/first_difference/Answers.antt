@@ -1,5 +1,5 @@
 -- The first part that passes the test.
-use Rattle.std.proofs.Common.{◌≡◌, ℕ, ◌≢◌, rules, tests}
+use Rattle.std.proofs.Common.{◌≡◌, ◌≢◌, rules, tests}
 use Rattle.std.proofs.lemmas.Iterator.{first_from_Range}
 use Rattle.store.specs.Stores.{part_in}
 use Rattle.ways.proofs.differing.first_difference.Goals as goal

@@ -24,4 +24,4 @@ returns c =
     first_or_only c.args.store.now c.args.p c.args.q c.requires.0 c.requires.1.0 c.requires.1.1 c.in-Sign.field-0 c.in-Sign.n
     (subst (Shows c.args.store.now c.args.p.0) c.in-Sign.is c.view-node.ensures)
     (subst (Shows c.args.store.now c.args.q.0) (sym same ∙ c.in-Sign.is) c.view.ensures)
-    c.in_ok-k.k k.1 k.2 k.3 _ _ c.first_difference-2.ensures c.is_none.ensures _ c.then_some.ensures
+    c.in_ok-k.k k.1 k.2 k.3 _ _ c.first_difference-later.ensures c.is_none.ensures _ c.then_some.ensures
