@@ -298,10 +298,10 @@ module _ (k : Book) (book : SoundBook k) (i : ℕ) (low : i < length (told k).ru
   pub right_short : ws ≡ row (rule_in k i).right → length ws ≤ length k.words.now
   right_short e = omega (arith, ap length e, row_length (rule_in k i).right, stands.right.long, stands.right.within)
 
--- from the left side of a rule to its right side: the left one is the only root's term
+-- the left side of a rule is read
 module _ (w : Walk) (i : ℕ) (book : SoundBook w.book.now) (low : i < length (told w.book.now).rules) (q : Roots) (none_yet : q.top ≡ 0)
     (v : Walk) (kept : Kept w v) (read : Stacked w.store.now q q.top (rule_in w.book.now i).left v.store.now v.roots.now) where
-  left_is : held v.store.now v.roots.now 0 ≡ (rule_in w.book.now i).left
+  pub left_is : held v.store.now v.roots.now 0 ≡ (rule_in w.book.now i).left
   left_is = ap (λ (n : ℕ). held v.store.now v.roots.now n) (sym none_yet) ∙ read.term
 
   pub under_first : UnderWay v
@@ -321,19 +321,17 @@ module _ (w : Walk) (i : ℕ) (book : SoundBook w.book.now) (low : i < length (t
         );
       }
 
-  module _ (from1 n : ℕ) (u : Term) where
-    pub way_stop : Followed w.book.now w.ways.now from1 n (held v.store.now v.roots.now 0) u None →
-        WayTold w.book.now w.ways.now from1 n (rule_in w.book.now i) None
-    way_stop f s rest x p = f s rest x (rule_in w.book.now i).right
-        (subst (λ (t : Term). Way (told w.book.now).parts (told w.book.now).eqs t s (rule_in w.book.now i).right) (sym left_is) p)
+-- from the left side t of a rule to its right side
+module _ (k : Book) (h : List ℕ) (i : ℕ) (t : Term) (left_is : t ≡ (rule_in k i).left) (from1 n : ℕ) (u : Term) where
+  pub way_stop : Followed k h from1 n t u None → WayTold k h from1 n (rule_in k i) None
+  way_stop f s rest x p = f s rest x (rule_in k i).right
+      (subst (λ (t2 : Term). Way (told k).parts (told k).eqs t2 s (rule_in k i).right) (sym left_is) p)
 
-    module _ (e : ℕ) (f : Followed w.book.now w.ways.now from1 n (held v.store.now v.roots.now 0) u (Some e)) where
-      pub way_told : (y : Bool) → Tells y (u ≡ (rule_in w.book.now i).right) →
-          WayTold w.book.now w.ways.now from1 n (rule_in w.book.now i) (then_some y e)
-      way_told true same = λ s rest x.
-          let g = f s rest x in
-          (subst₂ (λ (t1 t2 : Term). Way (told w.book.now).parts (told w.book.now).eqs t1 s t2) left_is (same.holds refl) g.0, g.1)
-      way_told false same = λ s rest x p.
-          let b = subst (λ (t : Term). Way (told w.book.now).parts (told w.book.now).eqs t s (rule_in w.book.now i).right)
-          (sym left_is) p in
-          same.fails refl (way_ends (told w.book.now).parts (told w.book.now).eqs (held v.store.now v.roots.now 0) s _ _ (f s rest x).0 b)
+  pub way_told : (e : ℕ) → Followed k h from1 n t u (Some e) → (y : Bool) → Tells y (u ≡ (rule_in k i).right) →
+      WayTold k h from1 n (rule_in k i) (then_some y e)
+  way_told e f true same = λ s rest x.
+      let g = f s rest x in
+      (subst₂ (λ (t1 t2 : Term). Way (told k).parts (told k).eqs t1 s t2) left_is (same.holds refl) g.0, g.1)
+  way_told e f false same = λ s rest x p.
+      let b = subst (λ (t2 : Term). Way (told k).parts (told k).eqs t2 s (rule_in k i).right) (sym left_is) p in
+      same.fails refl (way_ends (told k).parts (told k).eqs t s _ _ (f s rest x).0 b)

@@ -78,10 +78,24 @@ impl Walk<'_, '_, '_> {
             (held self.new.store.now self.new.roots.now 0) result }
     {
         let mut at = from;
+        // Stays a loop: each turn changes the walk, and a proof learns nothing of what a closure has changed.
         for _ in 0..count {
             at = self.next(at)?;
         }
         Some(at)
+    }
+
+    // Begins the way of rule i: its left side is the only root's term.
+    fn begin(&mut self, i: usize)
+        requires sound { (SoundBook self.old.book.now) × (Sound self.old.store.now) }
+        requires rule { i < length (told self.old.book.now).rules }
+        ensures ready { UnderWay self.new }
+        ensures kept { Kept self.old self.new }
+        ensures term { held self.new.store.now self.new.roots.now 0 ≡ (rule_in self.old.book.now i).left }
+    {
+        self.roots.truncate(0);
+        let left = self.book.left(i);
+        self.read(left);
     }
 
     // Whether the terms at a place of the ways, as many as are said, lead from the left side of rule i to its right side: where they end.
@@ -91,9 +105,7 @@ impl Walk<'_, '_, '_> {
         ensures kept { Kept self.old self.new }
         ensures told { WayTold self.old.book.now self.old.ways.now from count (rule_in self.old.book.now i) result }
     {
-        self.roots.truncate(0);
-        let left = self.book.left(i);
-        self.read(left);
+        self.begin(i);
         let end = self.follow(from, count)?;
         let right = self.book.right(i);
         self.is_held(right).then_some(end)
@@ -107,6 +119,7 @@ impl Walk<'_, '_, '_> {
         ensures told { Tells (is_some result) (Shown self.old.book.now self.old.ways.now) }
     {
         let mut at = 0;
+        // Stays a loop, as in `follow`.
         for i in 0..self.book.layout.rules() {
             let count = self.ways[at] as usize;
             at = self.way(i, at + 1, count)?;
