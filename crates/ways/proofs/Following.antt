@@ -1,5 +1,5 @@
 -- A way followed term by term.
-use Rattle.std.proofs.Common.{◌≡◌, ℕ, ◌+◌, ◌-◌, ◌<◌, ◌≤◌, Bool, true, false, List, [], ◌∷◌, ◌++◌, length, drop, Some, None, sym, refl, ap}
+use Rattle.std.proofs.Common.{◌≡◌, ℕ, ◌+◌, ◌-◌, ◌*◌, get_or, ◌<◌, ◌≤◌, Bool, true, false, List, [], ◌∷◌, ◌++◌, length, drop, Some, None, Option, sym, refl, ap}
 use Rattle.std.proofs.Common.{◌∙◌, subst, subst₂, append_assoc, append-nil, arith}
 use Rattle.rewriting.specs.Answers.{Tells}
 use Rattle.rewriting.specs.Terms.{Term, none1, and1, size, sizes, Fits, SmallLetter}
@@ -10,9 +10,10 @@ use Rattle.books.specs.declared.row.Book.{Book}
 use Rattle.books.specs.declared.words.Letters.TheVariants.{Any}
 use Rattle.books.specs.Books.{told, SoundBook, rule_in, RuleAt}
 use Rattle.books.specs.Layouts.{FewParts}
-use Rattle.books.specs.Reading.{TermEnd}
+use Rattle.books.specs.Reading.{TermAt, TermEnd}
 use Rattle.books.specs.Rows.{row, rowTerms}
-use Rattle.books.proofs.Bookish.{rule_sides}
+use Rattle.books.proofs.Bookish.{rule_at, rule_sides}
+use Rattle.books.proofs.Glueing.{row_length}
 use Rattle.books.proofs.Building.{book_parts}
 use Rattle.books.proofs.Heads.{head_of}
 use Rattle.books.proofs.Unique.{rows_once}
@@ -20,48 +21,50 @@ use Rattle.store.specs.declared.types.Store.{Store}
 use Rattle.store.specs.declared.types.Roots.{Roots}
 use Rattle.store.specs.declared.types.Place.{Place}
 use Rattle.store.specs.Stacks.{root_in, CutTo}
+use Rattle.store.specs.Making.{Stacked}
+use Rattle.store.specs.Transfers.{RowOf}
+use Rattle.std.specs.Bool.{then_some}
 use Rattle.store.specs.Stores.{Sound, term_in, held, terms_down, Inside}
 use Rattle.store.proofs.Placing.{carried_then, carried_grown, grown_same}
 use Rattle.ways.specs.Steps.{TwoTerms, StepTold}
-use Rattle.ways.specs.Showing.{Standing, RoomFor, TermRead, Roomy, UnderWay, WentOn, TermNext, NextTold}
-use Rattle.ways.specs.Showing.{TermsNext, Followed, WayTold}
+use Rattle.ways.specs.Showing.{RoomFor, WentOn, TermNext, NextTold, TermsNext, Followed, WayTold}
+use Rattle.ways.specs.Walks.{Kept, OnlyRoots, UnderWay}
+use Rattle.ways.specs.declared.walk.Walk.{Walk}
 
 -- the signature by its words
 pub few_parts : (k : Book) → SoundBook k → (ps : List ℕ) → ps ≡ (told k).parts → FewParts ps
 few_parts k s ps e = book_parts k.words.now (told k) s.reads ps (e ∙ sym (head_of k.words.now (told k) s.reads).parts)
 
-pub standing_by : {ws : List ℕ} {a z : ℕ} {t : Term} (ps qs : List ℕ) → ps ≡ qs → Standing qs ws a z t → Standing ps ws a z t
-standing_by {ws} {a} {z} {t} ps qs e = subst (λ (xs : List ℕ). Standing xs ws a z t) (sym e)
-
 -- going on
 pub went_same : (st : Store) (q : Roots) → Sound st → WentOn st q st q
 went_same st q s = record { sound = s; room = refl; cells = refl; carried = carried_grown st st (grown_same st) }
 
-pub went_then : (st : Store) (q : Roots) (su : Store) (r : Roots) (sv : Store) (s : Roots) → WentOn st q su r → WentOn su r sv s →
-    WentOn st q sv s
-went_then st q su r sv s g h = record {
-  sound = h.sound;
-  room = h.room ∙ g.room;
-  cells = h.cells ∙ g.cells;
-  carried = carried_then st su sv g.carried h.carried;
+pub kept_same : (w : Walk) → Sound w.store.now → Kept w w
+kept_same w s =
+    record { book = refl; ways = refl; store_lent = refl; roots_lent = refl; went = went_same w.store.now w.roots.now s }
+
+pub kept_then : (w v u : Walk) → Kept w v → Kept v u → Kept w u
+kept_then w v u g h = record {
+  book = h.book ∙ g.book;
+  ways = h.ways ∙ g.ways;
+  store_lent = h.store_lent ∙ g.store_lent;
+  roots_lent = h.roots_lent ∙ g.roots_lent;
+  went = record {
+    sound = h.went.sound;
+    room = h.went.room ∙ g.went.room;
+    cells = h.went.cells ∙ g.went.cells;
+    carried = carried_then w.store.now v.store.now u.store.now g.went.carried h.went.carried;
+  };
 }
 
-pub went_read : (st : Store) (q : Roots) (t : Term) (su : Store) (r : Roots) → TermRead st q t su r → WentOn st q su r
-went_read st q t su r h = record { sound = h.sound; room = h.room; cells = h.stacked.long; carried = h.carried }
-
-went_told : (k : Book) (st : Store) (q r : Roots) (x : Bool) → Sound st → StepTold k st q r x → WentOn st q st r
-went_told k st q r x s h = record { sound = s; room = refl; cells = h.long; carried = carried_grown st st (grown_same st) }
-
-pub went_cut : (st : Store) (q r : Roots) (n : ℕ) → Sound st → CutTo q n r → WentOn st q st r
-went_cut st q r n s cut = record { sound = s; room = refl; cells = ap length cut.cells; carried = carried_grown st st (grown_same st) }
-
-pub roomy_on : (k : Book) (h : List ℕ) (st : Store) (q : Roots) (su : Store) (r : Roots) → Roomy k h st q → WentOn st q su r →
-    Roomy k h su r
-roomy_on k h st q su r a g = record {
-  book = a.book;
-  sound = g.sound;
-  slots = omega (arith, a.slots, g.room);
-  cells = omega (arith, a.cells, g.cells);
+pub kept_only : (w v : Walk) → Sound w.store.now → OnlyRoots w v → length v.roots.now.cells.now ≡ length w.roots.now.cells.now → Kept w v
+kept_only w v s o long = record {
+  book = o.book;
+  ways = o.ways;
+  store_lent = o.store_lent;
+  roots_lent = o.roots_lent;
+  went = subst (λ (st : Store). WentOn w.store.now w.roots.now st v.roots.now) (sym o.store)
+      (record { sound = s; room = refl; cells = long; carried = carried_grown w.store.now w.store.now (grown_same w.store.now) });
 }
 
 -- the only root's size
@@ -75,76 +78,122 @@ no_size : (st : Store) (q : Roots) → q.top ≡ 0 → sizes (terms_down st q 0 
 no_size st q e = ap (λ (n : ℕ). sizes (terms_down st q 0 n)) e
 
 -- there is room for a term of the book or of the ways, beside the only root's
-pub room_beside : (k : Book) (h : List ℕ) (st : Store) (q : Roots) (n : ℕ) → UnderWay k h st q → n ≤ length k.words.now + length h →
-    RoomFor st q n
-room_beside k h st q n u l = record {
-  slots = omega (arith, one_size st q u.one, u.small, u.roomy.slots);
-  cells = omega (arith, u.one, u.roomy.cells);
+pub room_beside : (w : Walk) (n : ℕ) → UnderWay w → n ≤ length w.book.now.words.now + length w.ways.now → RoomFor w.store.now w.roots.now n
+room_beside w n u l = record {
+  slots = omega (arith, one_size w.store.now w.roots.now u.one, u.small, w.slots);
+  cells = omega (arith, u.one, w.cells);
 }
 
-pub room_alone : (k : Book) (h : List ℕ) (st : Store) (q : Roots) (n : ℕ) → Roomy k h st q → q.top ≡ 0 →
-    n ≤ length k.words.now + length h → RoomFor st q n
-room_alone k h st q n u z l = record { slots = omega (arith, no_size st q z, u.slots); cells = omega (arith, u.cells) }
+pub room_alone : (w : Walk) (q : Roots) (n : ℕ) → CutTo w.roots.now 0 q → n ≤ length w.book.now.words.now + length w.ways.now →
+    RoomFor w.store.now q n
+room_alone w q n cut l =
+    record { slots = omega (arith, no_size w.store.now q cut.top, w.slots); cells = omega (arith, w.cells, cut.top, ap length cut.cells) }
+
+-- the roots are taken away first
+pub kept_cut : (w : Walk) (q : Roots) → CutTo w.roots.now 0 q → (v : Walk) → v.book.now ≡ w.book.now → v.ways.now ≡ w.ways.now →
+    v.store.ghost_name ≡ w.store.ghost_name → v.roots.ghost_name ≡ w.roots.ghost_name →
+    WentOn w.store.now q v.store.now v.roots.now → Kept w v
+kept_cut w q cut v b h s r g = record {
+  book = b;
+  ways = h;
+  store_lent = s;
+  roots_lent = r;
+  went = record { sound = g.sound; room = g.room; cells = g.cells ∙ ap length cut.cells; carried = g.carried };
+}
 
 -- a term at a place of the ways is the one that stands there
-term_unique : (k : Book) (h : List ℕ) (a z : ℕ) (t v : Term) (rest : List ℕ) → Standing (told k).parts h a z t → TermNext k h a v rest →
-    (t ≡ v) × (drop z h ≡ rest)
-term_unique k h a z t v rest s n =
-    let q = rows_once Any (told k).parts (and1 t none1) (and1 v none1) (drop z h) rest (s.fits, tt) (n.fits, tt) refl
-    (simp append-nil (sym s.at.written ∙ n.written)) in
+term_unique : (k : Book) (h : List ℕ) (a z : ℕ) (t v : Term) (rest : List ℕ) → Fits (told k).parts t → TermAt h a z t →
+    TermNext k h a v rest → (t ≡ v) × (drop z h ≡ rest)
+term_unique k h a z t v rest fits at n =
+    let q = rows_once Any (told k).parts (and1 t none1) (and1 v none1) (drop z h) rest (fits, tt) (n.fits, tt) refl
+    (simp append-nil (sym at.written ∙ n.written)) in
     let e = q.0 in
     (cc, q.1)
 
 pub no_term : (k : Book) (h : List ℕ) (a : ℕ) (t u : Term) → TermEnd Any (told k).parts h a None → NextTold k h a t u None
 no_term k h a t u none_there v rest n o = none_there v rest n.fits (sym n.written)
 
+-- what is told of a walk's book and ways is told of those that it began with
+module _ (w v : Walk) (kept : Kept w v) where
+  pub sound_on : SoundBook w.book.now → SoundBook v.book.now
+  sound_on = subst SoundBook (sym kept.book)
+
+  pub next_on : (a : ℕ) (t u : Term) (x : Option ℕ) → NextTold v.book.now v.ways.now a t u x → NextTold w.book.now w.ways.now a t u x
+  next_on a t u x = subst₂ (λ (k : Book) (h : List ℕ). NextTold k h a t u x) kept.book kept.ways
+
+  pub followed_on : (a n : ℕ) (t u : Term) (x : Option ℕ) → Followed v.book.now v.ways.now a n t u x →
+      Followed w.book.now w.ways.now a n t u x
+  followed_on a n t u x = subst₂ (λ (k : Book) (h : List ℕ). Followed k h a n t u x) kept.book kept.ways
+
+  pub way_on : (a i : ℕ) (x : Option ℕ) → WayTold v.book.now v.ways.now (a + 1) (get_or v.ways.now a 0) (rule_in v.book.now i) x →
+      WayTold w.book.now w.ways.now (a + 1) (get_or w.ways.now a 0) (rule_in w.book.now i) x
+  way_on a i x = subst₂ (λ (k : Book) (h : List ℕ). WayTold k h (a + 1) (get_or h a 0) (rule_in k i) x) kept.book kept.ways
+
+  pub rule_on : (i : ℕ) → i < length (told w.book.now).rules → i < length (told v.book.now).rules
+  rule_on i = subst (λ (k : Book). i < length (told k).rules) (sym kept.book)
+
+  pub right_on : (i : ℕ) (t : Term) (y : Bool) → Tells y (t ≡ (rule_in v.book.now i).right) → Tells y (t ≡ (rule_in w.book.now i).right)
+  right_on i t y = subst (λ (k : Book). Tells y (t ≡ (rule_in k i).right)) kept.book
+
 -- the next term is read
-module _ (k : Book) (h : List ℕ) (a z : ℕ) (t : Term) (st : Store) (q : Roots) (u : UnderWay k h st q)
-    (s : Standing (told k).parts h a z t) (su : Store) (r : Roots) (read : TermRead st q t su r) where
-  first_is : held su r 0 ≡ held st q 0
-  first_is = read.stacked.terms 0 (omega (arith, u.one))
+module _ (w : Walk) (u : UnderWay w) (a z : ℕ) (t : Term) (fits : Fits (told w.book.now).parts t) (at : TermAt w.ways.now a z t)
+    (v : Walk) (kept : Kept w v) (read : Stacked w.store.now w.roots.now w.roots.now.top t v.store.now v.roots.now) where
+  first_is : held v.store.now v.roots.now 0 ≡ held w.store.now w.roots.now 0
+  first_is = read.terms 0 (omega (arith, u.one))
 
-  second_is : held su r 1 ≡ t
-  second_is = ap (λ (n : ℕ). held su r n) (sym u.one) ∙ read.stacked.term
+  second_is : held v.store.now v.roots.now 1 ≡ t
+  second_is = ap (λ (n : ℕ). held v.store.now v.roots.now n) (sym u.one) ∙ read.term
 
-  pub two_terms : TwoTerms k su r
-  two_terms = record {
-    book = u.roomy.book;
-    sound = read.sound;
-    inside = read.stacked.inside;
-    two = omega (arith, read.stacked.top, u.one);
-    first = subst (Fits (told k).parts) (sym first_is) u.fits;
-    second = subst (Fits (told k).parts) (sym second_is) s.fits;
-    cells = omega (arith, ap size second_is, s.at.long, s.at.within, u.roomy.cells, read.stacked.long);
-  }
+  pub two_terms : TwoTerms v.book.now v.store.now v.roots.now
+  two_terms = subst (λ (k : Book). TwoTerms k v.store.now v.roots.now) (sym kept.book) (record {
+    book = u.book;
+    sound = kept.went.sound;
+    inside = read.inside;
+    two = omega (arith, read.top, u.one);
+    first = subst (Fits (told w.book.now).parts) (sym first_is) u.fits;
+    second = subst (Fits (told w.book.now).parts) (sym second_is) fits;
+    cells = omega (arith, ap size second_is, at.long, at.within, w.cells, read.long);
+  })
 
-  module _ (r2 : Roots) (x : Bool) (told1 : StepTold k su r r2 x) where
-    pub went_next : WentOn st q su r2
-    went_next = went_then st q su r su r2 (went_read st q t su r read) (went_told k su r r2 x read.sound told1)
+  module _ (x : Walk) (only : OnlyRoots v x) (y : Bool) (step : StepTold v.book.now v.store.now v.roots.now x.roots.now y) where
+    pub kept_next : Kept w x
+    kept_next = kept_then w v x kept (kept_only v x kept.went.sound only step.long)
 
-    held_next : held su r2 0 ≡ t
-    held_next = told1.term ∙ second_is
+    held_next : held x.store.now x.roots.now 0 ≡ t
+    held_next = ap (λ (st : Store). held st x.roots.now 0) only.store ∙ (step.term ∙ second_is)
 
-    pub under_next : UnderWay k h su r2
+    pub under_next : UnderWay x
     under_next = record {
-      roomy = roomy_on k h st q su r2 u.roomy went_next;
-      inside = told1.inside;
-      one = told1.top;
-      fits = subst (Fits (told k).parts) (sym held_next) s.fits;
-      small = omega (arith, ap size held_next, s.at.long, s.at.within);
+      book = sound_on w x kept_next u.book;
+      sound = kept_next.went.sound;
+      inside = subst (λ (st : Store). Inside st x.roots.now) (sym only.store) step.inside;
+      one = step.top;
+      fits = subst₂ (λ (k : Book) (s : Term). Fits (told k).parts s) (sym kept_next.book) (sym held_next) fits;
+      small = omega (
+        arith,
+        ap size held_next,
+        at.long,
+        at.within,
+        ap length kept_next.ways,
+        ap (λ (k : Book). length k.words.now) kept_next.book,
+      );
     }
 
-    pub next_told : (y : Bool) → Tells y (One (told k).eqs (held su r 0) (held su r 1)) → y ≡ true →
-        NextTold k h a (held st q 0) (held su r2 0) (Some z)
-    next_told y m e v rest n =
-        let w = term_unique k h a z t v rest s n in
-        (subst₂ (One (told k).eqs) first_is (second_is ∙ w.0) (m.holds e), held_next ∙ w.0, w.1)
+    tells : Tells y (One (told w.book.now).eqs (held w.store.now w.roots.now 0) t)
+    tells = subst (λ (k : Book). Tells y (One (told k).eqs (held w.store.now w.roots.now 0) t)) kept.book
+        (subst₂ (λ (s1 s2 : Term). Tells y (One (told v.book.now).eqs s1 s2)) first_is second_is step.result)
 
-    pub not_next : (y : Bool) → Tells y (One (told k).eqs (held su r 0) (held su r 1)) → y ≡ false →
-        NextTold k h a (held st q 0) (held su r2 0) None
-    not_next y m e v rest n o =
-        let w = term_unique k h a z t v rest s n in
-        m.fails e (subst₂ (One (told k).eqs) (sym first_is) (sym (second_is ∙ w.0)) o)
+    pub next_told : NextTold w.book.now w.ways.now a (held w.store.now w.roots.now 0) (held x.store.now x.roots.now 0) (then_some y z)
+    next_told = go y tells
+      where
+        go : (b : Bool) → Tells b (One (told w.book.now).eqs (held w.store.now w.roots.now 0) t) →
+            NextTold w.book.now w.ways.now a (held w.store.now w.roots.now 0) (held x.store.now x.roots.now 0) (then_some b z)
+        go true m = λ s rest n.
+            let o = term_unique w.book.now w.ways.now a z t s rest fits at n in
+            (subst (One (told w.book.now).eqs (held w.store.now w.roots.now 0)) o.0 (m.holds refl), held_next ∙ o.0, o.1)
+        go false m = λ s rest n p.
+            let o = term_unique w.book.now w.ways.now a z t s rest fits at n in
+            m.fails refl (subst (One (told w.book.now).eqs (held w.store.now w.roots.now 0)) (sym o.0) p)
 
 -- of the terms w what is left: the m terms at place b, which are a way from u exactly if w is one from t
 pub record LeftOver (k : Book) (h : List ℕ) (b m : ℕ) (t u : Term) (w : List Term) (rest : List ℕ) : Type 0 where
@@ -206,64 +255,83 @@ pub inside_none : (st : Store) (q : Roots) → q.top ≡ 0 → Inside st q
 inside_none st q e = record { fits = omega arith; low = λ j l. absurd (omega arith) }
 
 -- the only root's term, and beside it the one that was read
-module _ (st : Store) (q : Roots) (one : q.top ≡ 1) (t : Term) (su : Store) (r : Roots) (read : TermRead st q t su r) where
-  pub cells_two : 4 ≤ length r.cells.now
-  cells_two = omega (arith, read.stacked.inside.fits, read.stacked.top)
+module _ (w : Walk) (one : w.roots.now.top ≡ 1) (t : Term) (v : Walk)
+    (read : Stacked w.store.now w.roots.now w.roots.now.top t v.store.now v.roots.now) where
+  pub cells_two : 4 ≤ length v.roots.now.cells.now
+  cells_two = omega (arith, read.inside.fits, read.top)
 
-  pub low_two : (root_in r 0 < su.count) × (root_in r 1 < su.count)
-  low_two = (
-    read.stacked.inside.low 0 (omega (arith, read.stacked.top)),
-    read.stacked.inside.low 1 (omega (arith, read.stacked.top)),
-  )
+  pub low_two : (root_in v.roots.now 0 < v.store.now.count) × (root_in v.roots.now 1 < v.store.now.count)
+  low_two = (read.inside.low 0 (omega (arith, read.top)), read.inside.low 1 (omega (arith, read.top)))
 
-  pub held_told : (x y : Place) → x.0 ≡ root_in r 0 → y.0 ≡ root_in r 1 → (z : Bool) →
-      (z ≡ true → term_in su x.0 ≡ term_in su y.0) → (z ≡ false → term_in su x.0 ≡ term_in su y.0 → ⊥) →
-      Tells z (held st q 0 ≡ t)
+  pub held_told : (x y : Place) → x.0 ≡ root_in v.roots.now 0 → y.0 ≡ root_in v.roots.now 1 → (z : Bool) →
+      (z ≡ true → term_in v.store.now x.0 ≡ term_in v.store.now y.0) →
+      (z ≡ false → term_in v.store.now x.0 ≡ term_in v.store.now y.0 → ⊥) → Tells z (held w.store.now w.roots.now 0 ≡ t)
   held_told x y ex ey z yes1 no1 =
-      let first_is : term_in su x.0 ≡ held st q 0 = ap (λ (j : ℕ). term_in su j) ex ∙ read.stacked.terms 0 (omega arith) in
-      let second_is : term_in su y.0 ≡ t =
-      ap (λ (j : ℕ). term_in su j) ey ∙ (ap (λ (j : ℕ). held su r j) (sym one) ∙ read.stacked.term) in
+      let first_is : term_in v.store.now x.0 ≡ held w.store.now w.roots.now 0 =
+      ap (λ (j : ℕ). term_in v.store.now j) ex ∙ read.terms 0 (omega arith) in
+      let second_is : term_in v.store.now y.0 ≡ t =
+      ap (λ (j : ℕ). term_in v.store.now j) ey ∙ (ap (λ (j : ℕ). held v.store.now v.roots.now j) (sym one) ∙ read.term) in
       record {
         holds = λ e. sym first_is ∙ (yes1 e ∙ second_is);
         fails = λ e d. no1 e (first_is ∙ (d ∙ sym second_is));
       }
 
--- from the left side of a rule to its right side
-module _ (k : Book) (h : List ℕ) (i : ℕ) (book : SoundBook k) (low : i < length (told k).rules) (a m z : ℕ) (at : RuleAt k i a m z) where
-  pub left_standing : Standing (told k).parts k.words.now a m (rule_in k i).left
-  left_standing =
-      record { fits = over_fits (told k).parts SmallLetter (rule_in k i).left (rule_sides k book i low).left; at = at.left }
+-- the sides of a rule
+module _ (k : Book) (book : SoundBook k) (i : ℕ) (low : i < length (told k).rules) (ws : List ℕ) where
+  abbrev side : ℕ → ℕ
+  side j = get_or k.layout.starts (2 * (k.layout.equations + i) + j) 0
 
-  pub right_standing : Standing (told k).parts k.words.now m z (rule_in k i).right
-  right_standing =
-      record { fits = over_fits (told k).parts SmallLetter (rule_in k i).right (rule_sides k book i low).right; at = at.right }
+  stands : RuleAt k i (get_or k.layout.starts (2 * (k.layout.equations + i)) 0) (side 1) (side 2)
+  stands = rule_at k book i low _ _ _ refl refl refl
 
-  module _ (st : Store) (q : Roots) (roomy : Roomy k h st q) (none_yet : q.top ≡ 0) (su : Store) (r : Roots)
-      (read : TermRead st q (rule_in k i).left su r) where
-    left_is : held su r 0 ≡ (rule_in k i).left
-    left_is = ap (λ (n : ℕ). held su r n) (sym none_yet) ∙ read.stacked.term
+  pub left_row : ws ≡ row (rule_in k i).left → RowOf (told k).parts ws (rule_in k i).left
+  left_row e =
+      record { written = sym e; fits = over_fits (told k).parts SmallLetter (rule_in k i).left (rule_sides k book i low).left }
 
-    pub under_first : UnderWay k h su r
-    under_first = record {
-      roomy = roomy_on k h st q su r roomy (went_read st q (rule_in k i).left su r read);
-      inside = read.stacked.inside;
-      one = omega (arith, read.stacked.top);
-      fits = subst (Fits (told k).parts) (sym left_is) left_standing.fits;
-      small = omega (arith, ap size left_is, at.left.long, at.left.within);
-    }
+  pub right_row : ws ≡ row (rule_in k i).right → RowOf (told k).parts ws (rule_in k i).right
+  right_row e =
+      record { written = sym e; fits = over_fits (told k).parts SmallLetter (rule_in k i).right (rule_sides k book i low).right }
 
-    module _ (from1 n : ℕ) (u : Term) where
-      pub way_stop : Followed k h from1 n (held su r 0) u None → WayTold k h from1 n (rule_in k i) None
-      way_stop f w rest x p = f w rest x (rule_in k i).right
-          (subst (λ (t : Term). Way (told k).parts (told k).eqs t w (rule_in k i).right) (sym left_is) p)
+  pub left_short : ws ≡ row (rule_in k i).left → length ws ≤ length k.words.now
+  left_short e = omega (arith, ap length e, row_length (rule_in k i).left, stands.left.long, stands.left.within)
 
-      module _ (e : ℕ) (f : Followed k h from1 n (held su r 0) u (Some e)) where
-        pub way_shown : u ≡ (rule_in k i).right → WayTold k h from1 n (rule_in k i) (Some e)
-        way_shown same w rest x =
-            let g = f w rest x in
-            (subst₂ (λ (t v : Term). Way (told k).parts (told k).eqs t w v) left_is same g.0, g.1)
+  pub right_short : ws ≡ row (rule_in k i).right → length ws ≤ length k.words.now
+  right_short e = omega (arith, ap length e, row_length (rule_in k i).right, stands.right.long, stands.right.within)
 
-        pub way_missed : (u ≡ (rule_in k i).right → ⊥) → WayTold k h from1 n (rule_in k i) None
-        way_missed other w rest x p =
-            let b = subst (λ (t : Term). Way (told k).parts (told k).eqs t w (rule_in k i).right) (sym left_is) p in
-            other (way_ends (told k).parts (told k).eqs (held su r 0) w _ _ (f w rest x).0 b)
+-- the left side of a rule is read
+module _ (w : Walk) (i : ℕ) (book : SoundBook w.book.now) (low : i < length (told w.book.now).rules) (q : Roots) (none_yet : q.top ≡ 0)
+    (v : Walk) (kept : Kept w v) (read : Stacked w.store.now q q.top (rule_in w.book.now i).left v.store.now v.roots.now) where
+  pub left_is : held v.store.now v.roots.now 0 ≡ (rule_in w.book.now i).left
+  left_is = ap (λ (n : ℕ). held v.store.now v.roots.now n) (sym none_yet) ∙ read.term
+
+  pub under_first : UnderWay v
+  under_first =
+      let here = left_row w.book.now book i low _ refl in record {
+        book = sound_on w v kept book;
+        sound = kept.went.sound;
+        inside = read.inside;
+        one = omega (arith, read.top);
+        fits = subst₂ (λ (k : Book) (s : Term). Fits (told k).parts s) (sym kept.book) (sym left_is) here.fits;
+        small = omega (
+          arith,
+          ap size left_is,
+          left_short w.book.now book i low _ refl,
+          row_length (rule_in w.book.now i).left,
+          ap (λ (k : Book). length k.words.now) kept.book,
+        );
+      }
+
+-- from the left side t of a rule to its right side
+module _ (k : Book) (h : List ℕ) (i : ℕ) (t : Term) (left_is : t ≡ (rule_in k i).left) (from1 n : ℕ) (u : Term) where
+  pub way_stop : Followed k h from1 n t u None → WayTold k h from1 n (rule_in k i) None
+  way_stop f s rest x p = f s rest x (rule_in k i).right
+      (subst (λ (t2 : Term). Way (told k).parts (told k).eqs t2 s (rule_in k i).right) (sym left_is) p)
+
+  pub way_told : (e : ℕ) → Followed k h from1 n t u (Some e) → (y : Bool) → Tells y (u ≡ (rule_in k i).right) →
+      WayTold k h from1 n (rule_in k i) (then_some y e)
+  way_told e f true same = λ s rest x.
+      let g = f s rest x in
+      (subst₂ (λ (t1 t2 : Term). Way (told k).parts (told k).eqs t1 s t2) left_is (same.holds refl) g.0, g.1)
+  way_told e f false same = λ s rest x p.
+      let b = subst (λ (t2 : Term). Way (told k).parts (told k).eqs t2 s (rule_in k i).right) (sym left_is) p in
+      same.fails refl (way_ends (told k).parts (told k).eqs t s _ _ (f s rest x).0 b)

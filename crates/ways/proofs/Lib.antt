@@ -3,6 +3,6 @@ pub mod Onestep
 pub mod Topping
 pub mod Parting
 pub mod Stepping
+pub mod Remaining
 pub mod Rooms
 pub mod Following
-pub mod Remaining

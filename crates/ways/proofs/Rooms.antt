@@ -1,10 +1,12 @@
 -- Terms read from words for which there is room.
-use Rattle.std.proofs.Common.{◌≡◌, ℕ, zero, suc, ◌+◌, ◌-◌, ◌*◌, ◌≤◌, ◌⊎◌, List, [], ◌∷◌, length, take, drop, Ok, Err, Result, sym, ap}
+use Rattle.std.proofs.Common.{◌≡◌, ℕ, zero, suc, ◌+◌, ◌-◌, ◌*◌, ◌≤◌, ◌⊎◌, List, [], ◌∷◌, length, take, drop, Ok, Err, Result, sym, refl, ap}
+use Rattle.std.specs.Result.{IsOk}
 use Rattle.std.proofs.Common.{◌∙◌, ap₂, inl, inr, arith}
 use lib.Seq.{take-append_seam}
-use Rattle.rewriting.specs.Terms.{Term, size, sizes}
+use Rattle.rewriting.specs.Terms.{Term, size, sizes, Fits}
 use Rattle.rewriting.specs.Different.{different, listed, PartOf, of_first, of_later}
 use Rattle.rewriting.proofs.Different.{different_both, different_size}
+use Rattle.books.specs.Reading.{TermAt}
 use Rattle.books.specs.Rows.{row}
 use Rattle.books.proofs.Glueing.{row_length}
 use Rattle.store.specs.declared.types.Store.{Store}
@@ -13,14 +15,14 @@ use Rattle.store.specs.declared.types.Full.{Full}
 use Rattle.store.specs.declared.types.Full.TheVariants.{NoSlot, NoRoot}
 use Rattle.store.specs.Stores.{held, terms_down}
 use Rattle.store.specs.Making.{Stacked}
-use Rattle.store.specs.Transfers.{RowOf, Read, ReadOrFull}
-use Rattle.ways.specs.Showing.{Standing, RoomFor, TermRead}
+use Rattle.store.specs.Transfers.{RowOf, ReadOrFull}
+use Rattle.ways.specs.Showing.{RoomFor}
 
 -- the words of a term
-pub row_of : (ps ws : List ℕ) (a z : ℕ) (t : Term) → Standing ps ws a z t → RowOf ps (take (z - a) (drop a ws)) t
-row_of ps ws a z t s =
-    let n : z - a ≡ length (row t) = omega (arith, s.at.long, row_length t) in
-    record { written = sym (ap₂ take n s.at.written ∙ take-append_seam (row t) (drop z ws)); fits = s.fits }
+pub row_of : (ps ws : List ℕ) (a z : ℕ) (t : Term) → Fits ps t → TermAt ws a z t → RowOf ps (take (z - a) (drop a ws)) t
+row_of ps ws a z t fits at =
+    let n : z - a ≡ length (row t) = omega (arith, at.long, row_length t) in
+    record { written = sym (ap₂ take n at.written ∙ take-append_seam (row t) (drop z ws)); fits = fits }
 
 -- no more different parts than letters and signs
 one_more : (t : Term) (ts : List Term) → different (t ∷ ts) ≤ size t + different ts
@@ -37,17 +39,18 @@ held_parts st q (suc n) =
     let d : size (held st q (0 + n)) ≡ size (held st q n) = ap (λ (k : ℕ). size (held st q k)) e in
     omega (arith, one_more (held st q n) (listed (λ k. held st q k) n), held_parts st q n)
 
-module _ (st : Store) (q : Roots) (t : Term) (su : Store) (r : Roots) (n : ℕ) (long : n ≡ 2 * size t) (room : RoomFor st q n) where
-  is_stacked : (x : Result (Unit {0}) Full) → ReadOrFull st q t su r x → Stacked st q q.top t su r
-  is_stacked (Ok x) h = h
-  is_stacked (Err NoSlot) h = absurd (omega (
+module _ (st : Store) (q : Roots) (ps ws : List ℕ) (t : Term) (of_row : RowOf ps ws t) (room : RoomFor st q (length ws)) where
+  long : length ws ≡ 2 * size t
+  long = omega (arith, ap length of_row.written, row_length t)
+
+  pub row_fits : (su : Store) (r : Roots) (x : Result (Unit {0}) Full) → ReadOrFull st q t su r x → IsOk x × Stacked st q q.top t su r
+  row_fits su r (Ok x) h = (refl, h)
+  row_fits su r (Err NoSlot) h = absurd (omega (
     arith,
     h.1,
     one_more t (listed (λ k. held st q k) q.top),
     held_parts st q q.top,
     room.slots,
+    long,
   ))
-  is_stacked (Err NoRoot) h = absurd (h.1 (omega (arith, room.cells)))
-
-  pub term_read : (x : Result (Unit {0}) Full) → Read st q t su r x → TermRead st q t su r
-  term_read x h = record { sound = h.sound; room = h.room; carried = h.carried; stacked = is_stacked x h.roots }
+  row_fits su r (Err NoRoot) h = absurd (h.1 (omega (arith, room.cells, long)))

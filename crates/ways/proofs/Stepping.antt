@@ -1,6 +1,7 @@
 -- What the search for a step keeps: two terms that stand for the first two, or the parts of a term that are still to be looked at.
 use Rattle.std.proofs.Common.{◌≡◌, ℕ, suc, ◌+◌, ◌-◌, ◌<◌, ◌≤◌, Bool, true, false, ◌⊎◌, List, length, None, Ok, Err, Result, sym, refl, ap}
 use Rattle.std.proofs.Common.{◌∙◌, subst, subst₂, inl, inr, arith}
+use Rattle.std.specs.Result.{IsOk}
 use borrow.Author.Tests.{clash}
 use Rattle.rewriting.specs.Answers.{Tells}
 use Rattle.rewriting.specs.Terms.{Term, letter, sign, Terms, none1, and1, glue, count, size, sizes, AllOver, AnyLetter, Fits}
@@ -23,6 +24,8 @@ use Rattle.store.proofs.Forests.{down_same, down_count}
 use Rattle.store.proofs.Telling.{one_place}
 use Rattle.ways.specs.Steps.{Equated, DifferAt, differ_first, differ_later, DifferIn, OnlyDifference, Itself, Itselves}
 use Rattle.ways.specs.Steps.{Comparable, Expanded, Walkable, Walked, TwoTerms, StepTold}
+use Rattle.ways.specs.declared.walk.Walk.{Walk}
+use Rattle.ways.specs.Walks.{OnlyRoots}
 use Rattle.ways.proofs.Onestep.{Inner, one_cases, one_top, one_up, inner_one, inner_apart, one_itself, itself_one, selves_on, selves_back}
 
 -- the step that is looked for is one between the terms at p and q
@@ -104,9 +107,9 @@ module _ (k : Book) (st : Store) (p0 q0 p q : Place) (n : Narrowed k st p0 q0 p 
 module _ (a : Store) (q u : Roots) (cut : CutTo q (q.top - 1) u) (i : Inside a q) (some : 0 < q.top) where
   pub sign_expanded : (p f n : ℕ) → held a q (q.top - 1) ≡ sign f (parts_in a p n) →
       HasRoots q.cells.now (q.top - 1 + count (inner (held a q (q.top - 1)))) →
-      (r : Roots) (x : Result (Unit {0}) Full) → PartsOrFull a u p n r x → Expanded a q r
+      (r : Roots) (x : Result (Unit {0}) Full) → PartsOrFull a u p n r x → IsOk x × Expanded a q r
   sign_expanded p f n e enough r (Ok x) h =
-      record { written = sign_written a q p f n u e cut i r h; below = sign_below a q p f n u e cut i r h.long h.rest }
+      (refl, record { written = sign_written a q p f n u e cut i r h; below = sign_below a q p f n u e cut i r h.long h.rest })
   sign_expanded p f n e enough r (Err x) h =
       absurd (h.2 (omega (arith, sign_count a q p f n u e cut i, ap length cut.cells, cut.top)))
 
@@ -278,3 +281,28 @@ module _ (k : Book) (st : Store) (q : Roots) (two : TwoTerms k st q) where
       };
       term = ap (λ (i : ℕ). term_in st i) (s.is ∙ ey);
     }
+
+-- a walk whose book and store are the same
+pub only_same : (w : Walk) → OnlyRoots w w
+only_same w = record { book = refl; ways = refl; store = refl; store_lent = refl; roots_lent = refl }
+
+module _ (w v : Walk) (only : OnlyRoots w v) where
+  pub only_then : (u : Walk) → OnlyRoots v u → OnlyRoots w u
+  only_then u o = record {
+    book = o.book ∙ only.book;
+    ways = o.ways ∙ only.ways;
+    store = o.store ∙ only.store;
+    store_lent = o.store_lent ∙ only.store_lent;
+    roots_lent = o.roots_lent ∙ only.roots_lent;
+  }
+
+  pub comparable_on : (p q : Place) → Comparable w.book.now w.store.now p q → Comparable v.book.now v.store.now p q
+  comparable_on p q = subst₂ (λ (k : Book) (st : Store). Comparable k st p q) (sym only.book) (sym only.store)
+
+  pub equated_on : (p q : Place) (x : Bool) →
+      Tells x (Equated (told v.book.now).eqs (term_in v.store.now p.0) (term_in v.store.now q.0)) →
+      Tells x (Equated (told w.book.now).eqs (term_in w.store.now p.0) (term_in w.store.now q.0))
+  equated_on p q x = subst₂ (λ (k : Book) (st : Store). Tells x (Equated (told k).eqs (term_in st p.0) (term_in st q.0))) only.book only.store
+
+  pub expanded_on : (q r : Roots) → Expanded v.store.now q r → Expanded w.store.now q r
+  expanded_on q r = subst (λ (st : Store). Expanded st q r) only.store

@@ -1,5 +1,8 @@
 -- Both sides of an equation matched with two terms.
 use Rattle.std.proofs.Common.{◌≡◌, ℕ, ◌<◌, Bool, true, false, ◌⊎◌, length, replicate, None, sym, subst, arith}
+use Rattle.std.specs.Prelude.{◌≤◌, MatchBool, HoldsAt, slice_index_or as get_or}
+use Rattle.std.specs.List.{range_with_len}
+use Rattle.std.proofs.lemmas.List.FromFn.{length-range_with_len, get_or-range_with_len}
 use borrow.Author.Tests.{clash}
 use Rattle.rewriting.specs.Answers.{Tells}
 use Rattle.rewriting.specs.Terms.{Term}
@@ -57,3 +60,24 @@ none_equated k n t u z none h =
     let low = nth_below (told k).eqs h.index h.equation h.has in
     let e : h.equation ≡ equation_in k h.index = sym (nth_is (told k).eqs h.index h.equation blank h.has) in
     none h.index (omega arith) (subst (λ (x : Eq). SidesAre x t u ⊎ SidesAre x u t) e h.sides)
+
+-- what `any` says over the numbers of the equations
+abbrev pub Leads : Book → Term → Term → ℕ → Type 0
+Leads k t u i = SidesAre (equation_in k i) t u ⊎ SidesAre (equation_in k i) u t
+
+number : (n i d : ℕ) → i < n → get_or (range_with_len 0 n) i d ≡ i
+number n i d l = omega (arith, get_or-range_with_len 0 n i d l)
+
+pub any_equated : (k : Book) (st : Store) (p q : Place) → Comparable k st p q → (n : ℕ) → n ≡ length (told k).eqs → (t u : Term) →
+    (r : Bool) → MatchBool r ((i : ℕ) × (i < length (range_with_len 0 n)) × HoldsAt (Leads k t u) (range_with_len 0 n) i)
+    ((i d : ℕ) → 0 ≤ i → i < length (range_with_len 0 n) → Leads k t u (get_or (range_with_len 0 n) i d) → ⊥) → Tells r (Equated (told k).eqs t u)
+any_equated k st p q can n e t u true (i, l, h) =
+    let low : i < n = omega (arith, length-range_with_len 0 n) in record {
+      holds = λ z. by_equation k st p q can i (omega arith) t u (subst (Leads k t u) (number n i 0 low) (h 0));
+      fails = λ z. absurd (clash (sym z));
+    }
+any_equated k st p q can n e t u false none_there = record {
+  holds = λ z. absurd (clash z);
+  fails = λ z. none_equated k n t u (sym e) (λ i l. subst (λ (j : ℕ). Leads k t u j → ⊥) (number n i 0 l)
+      (none_there i 0 (omega arith) (omega (arith, length-range_with_len 0 n))));
+}

@@ -1,33 +1,19 @@
 -- Ways read from their words and followed step by step.
 use Rattle.std.specs.Prelude.{◌≡◌, ℕ, ◌+◌, ◌*◌, ◌<◌, ◌≤◌, List, ◌++◌, length, drop, Some, None, Option as Maybe}
-use Rattle.rewriting.specs.Terms.{Term, size, sizes, Fits}
+use Rattle.rewriting.specs.Terms.{Term, sizes, Fits}
 use Rattle.rewriting.specs.Rules.{Eq}
 use Rattle.rewriting.specs.Ways.{One, Way, Ways}
 use Rattle.store.specs.declared.types.Store.{Store}
 use Rattle.store.specs.declared.types.Roots.{Roots}
-use Rattle.store.specs.Stores.{Sound, Carried, held, terms_down, Inside}
-use Rattle.store.specs.Making.{Stacked}
+use Rattle.store.specs.Stores.{Sound, Carried, terms_down}
 use Rattle.books.specs.declared.row.Book.{Book}
 use Rattle.books.specs.Books.{told, SoundBook}
-use Rattle.books.specs.Reading.{TermAt}
 use Rattle.books.specs.Rows.{row, rowTerms, rowWays, AllFit}
-
--- a term over the signature stands in the words from one place up to another
-pub record Standing (ps ws : List ℕ) (a z : ℕ) (t : Term) : Type 0 where
-  pub fits : Fits ps t
-  pub at : TermAt ws a z t
 
 -- there is room to read n words beside what the roots hold
 pub record RoomFor (st : Store) (q : Roots) (n : ℕ) : Type 0 where
   pub slots : n + 2 * sizes (terms_down st q 0 q.top) < 2 * st.room
   pub cells : 2 * q.top + n ≤ length q.cells.now
-
--- one more root holds t
-pub record TermRead (st : Store) (q : Roots) (t : Term) (su : Store) (r : Roots) : Type 0 where
-  pub sound : Sound su
-  pub room : su.room ≡ st.room
-  pub carried : Carried st su
-  pub stacked : Stacked st q q.top t su r
 
 -- slots and cells enough for the words of a book and of ways
 pub record Roomy (k : Book) (h : List ℕ) (st : Store) (q : Roots) : Type 0 where
@@ -35,14 +21,6 @@ pub record Roomy (k : Book) (h : List ℕ) (st : Store) (q : Roots) : Type 0 whe
   pub sound : Sound st
   pub slots : length k.words.now + length h < st.room
   pub cells : length k.words.now + length h + 2 ≤ length q.cells.now
-
--- the only root's term is over the signature, and no longer than these words
-pub record UnderWay (k : Book) (h : List ℕ) (st : Store) (q : Roots) : Type 0 where
-  pub roomy : Roomy k h st q
-  pub inside : Inside st q
-  pub one : q.top ≡ 1
-  pub fits : Fits (told k).parts (held st q 0)
-  pub small : 2 * size (held st q 0) ≤ length k.words.now + length h
 
 -- no room is lost, and flags and notes go back to what they were for the same terms
 pub record WentOn (st : Store) (q : Roots) (su : Store) (r : Roots) : Type 0 where

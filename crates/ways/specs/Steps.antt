@@ -1,5 +1,5 @@
 -- One step by an equation: at the top, at the only part where two terms differ, or from a term to itself.
-use Rattle.std.specs.Prelude.{◌≡◌, ℕ, ◌+◌, ◌-◌, ◌<◌, ◌≤◌, Bool, ◌⊎◌, List, length, Some, None, Option as Maybe, ◌≢◌}
+use Rattle.std.specs.Prelude.{◌≡◌, ℕ, ◌+◌, ◌-◌, ◌<◌, ◌≤◌, Bool, ◌⊎◌, List, length, Some, None, Option as Maybe, MatchOption, ◌≢◌}
 use Rattle.std.proofs.Math.Option.{some}
 use Rattle.rewriting.specs.Answers.{Tells}
 use Rattle.rewriting.specs.Terms.{nth, Term, sign, Terms, and1, put, size, Fits}
@@ -48,9 +48,9 @@ pub record Comparable (k : Book) (st : Store) (p q : Place) : Type 0 where
 
 -- of n parts each, from one on: the first that differ, or that none do
 abbrev pub FirstDifference : Store → Place → Place → ℕ → ℕ → Maybe ℕ → Type 0
-FirstDifference st p q n from1 (Some k) = (from1 ≤ k) × (k < n) × (part_in st p.0 k ≢ part_in st q.0 k)
-    × ((j : ℕ) → from1 ≤ j → j < k → part_in st p.0 j ≡ part_in st q.0 j)
-FirstDifference st p q n from1 None = (j : ℕ) → from1 ≤ j → j < n → part_in st p.0 j ≡ part_in st q.0 j
+FirstDifference st p q n from1 r = MatchOption r ((j : ℕ) → from1 ≤ j → j < n → part_in st p.0 j ≡ part_in st q.0 j)
+    (λ k. (from1 ≤ k) × (k < n) × (part_in st p.0 k ≢ part_in st q.0 k)
+    × ((j : ℕ) → from1 ≤ j → j < k → part_in st p.0 j ≡ part_in st q.0 j))
 
 -- the terms at p and q have one sign and differ in part k only
 pub record DifferIn (st : Store) (p q : Place) (k : ℕ) : Type 0 where

@@ -12,13 +12,9 @@ mod tests {
 
     // Whether the ways show that the rules follow, if the words are a book's and there is room.
     fn shows(words: &[u32], ways: &[u32], slots: &mut [u32], cells: &mut [u32]) -> Option<bool> {
-        let Some(layout) = read_book(words) else {
-            return None;
-        };
+        let layout = read_book(words)?;
         let book = Book { words, layout };
-        let Some(mut store) = Store::open(slots) else {
-            return None;
-        };
+        let mut store = Store::open(slots)?;
         let mut roots = Roots::new(cells);
         let n = words.len() + ways.len();
         if store.room <= n || roots.cells.len() < n + 2 {
@@ -32,16 +28,13 @@ mod tests {
         let n = words.len().saturating_add(ways.len());
         let mut slots = vec![in heap; 0; n.saturating_add(1).saturating_mul(16)]?;
         let mut cells = vec![in heap; 0; n.saturating_add(2)]?;
-        Ok(shows(words, ways, slots.as_mut_slice(), cells.as_mut_slice()))
+        Ok(shows(words, ways, &mut slots, &mut cells))
     }
 
     // The same, of a book in the readable form, by its equations and rules.
     fn told(heap: Global, text: &str) -> Result<Option<bool>, Fail> {
-        let book = match parse(heap, text) {
-            Ok(book) => book,
-            Err(e) => return Err(Fail::new(e)),
-        };
-        words_show(heap, book.words.as_slice(), book.ways.as_slice())
+        let book = parse(heap, text).map_err(Fail::new)?;
+        words_show(heap, &book.words, &book.ways)
     }
 
     #[test]

@@ -1,27 +1,27 @@
 -- None, one or two parts differ.
-use Rattle.ways.proofs.Parting.{other_signs, no_difference, two_differences, one_difference}
+use Rattle.std.proofs.Common.{◌≡◌, rules, sym, ◌∙◌, subst}
+use Rattle.store.specs.Stores.{Shows}
+use Rattle.ways.specs.Steps.{OnlyDifference}
+use Rattle.ways.proofs.Parting.{other_nodes, no_difference, first_or_only}
 use Rattle.ways.proofs.differing.only_difference.Goals as goal
 
-pub returns-then-f-g : goal.returns-then-f-g
-returns-then-f-g c = other_signs c.args.store.now c.args.p c.args.q c.in-Sign.f c.in-Sign-view.g c.in-Sign.n
-    c.in-Sign-view.m c.then-f-g.either c.in-Sign.ensures c.in-Sign-view.ensures
+pub returns-then-ne : goal.returns-then-ne
+returns-then-ne c = other_nodes c.args.store.now c.args.p c.args.q c.view-node.result c.view.result (λ e. search rules)
+    c.view-node.ensures c.view.ensures
 
-pub returns-in_default-first_difference : goal.returns-in_default-first_difference
-returns-in_default-first_difference c = no_difference c.args.store.now c.args.p c.args.q c.requires.0 c.requires.1.0 c.requires.1.1
-    c.in-Sign.f c.in-Sign-view.g c.in-Sign.n c.in-Sign-view.m c.if-f-g.false c.if-n-m.false c.in-Sign.ensures
-    c.in-Sign-view.ensures c.in_default-first_difference.ensures
+pub returns-in_err-k : goal.returns-in_err-k
+returns-in_err-k c =
+    let same : c.view-node.result ≡ c.view.result = search rules in
+    subst (OnlyDifference c.args.store.now c.args.p c.args.q) (sym c.from_residual.ensures)
+    (no_difference c.args.store.now c.args.p c.args.q c.requires.0 c.requires.1.0 c.requires.1.1 c.in-Sign.field-0 c.in-Sign.n
+    (subst (Shows c.args.store.now c.args.p.0) c.in-Sign.is c.view-node.ensures)
+    (subst (Shows c.args.store.now c.args.q.0) (sym same ∙ c.in-Sign.is) c.view.ensures) c.in_err-k.ensures)
 
-pub returns-in-Some-first_difference : goal.returns-in-Some-first_difference
-returns-in-Some-first_difference c =
-    let h = c.in-Some.ensures in
-    let k = c.in-Some-first_difference.ensures in
-    two_differences c.args.store.now c.args.p c.args.q c.requires.0 c.requires.1.0 c.requires.1.1
-    c.in-Sign.f c.in-Sign-view.g c.in-Sign.n c.in-Sign-view.m c.if-f-g.false c.if-n-m.false c.in-Sign.ensures
-    c.in-Sign-view.ensures c.in-Some.k c.in-Some-first_difference.field-0 k.0 k.1 h.2 k.2
-
-pub returns-in-None : goal.returns-in-None
-returns-in-None c =
-    let h = c.in-Some.ensures in
-    one_difference c.args.store.now c.args.p c.args.q c.requires.0 c.requires.1.0 c.requires.1.1
-    c.in-Sign.f c.in-Sign-view.g c.in-Sign.n c.in-Sign-view.m c.if-f-g.false c.if-n-m.false c.in-Sign.ensures
-    c.in-Sign-view.ensures c.in-Some.k h.1 h.2 h.3 c.in-None.ensures
+pub returns : goal.returns
+returns c =
+    let same : c.view-node.result ≡ c.view.result = search rules in
+    let k = c.in_ok-k.ensures in
+    first_or_only c.args.store.now c.args.p c.args.q c.requires.0 c.requires.1.0 c.requires.1.1 c.in-Sign.field-0 c.in-Sign.n
+    (subst (Shows c.args.store.now c.args.p.0) c.in-Sign.is c.view-node.ensures)
+    (subst (Shows c.args.store.now c.args.q.0) (sym same ∙ c.in-Sign.is) c.view.ensures)
+    c.in_ok-k.k k.1 k.2 k.3 _ _ c.first_difference-later.ensures c.is_none.ensures _ c.then_some.ensures

@@ -1,9 +1,0 @@
--- The step is one between the terms at p and q, which get smaller.
-use Rattle.ways.proofs.Stepping.{Narrowed}
-use Rattle.ways.proofs.steps.leads_to_other.Given as goal
-
-abbrev pub invariant-loop-p : goal.invariant-loop-p
-invariant-loop-p l = Narrowed l.book l.store l.initial.p l.initial.q l.p l.q
-
-abbrev pub decreases-loop-p : goal.decreases-loop-p
-decreases-loop-p l = l.p.0
