@@ -9,7 +9,8 @@ pub loop-i-init : goal.loop-i-init
 loop-i-init c = found_none c.args.store.now c.new-letters.result c.new-letters.ensures
 
 pub loop-i-preserved-in_default : goal.loop-i-preserved-in_default
-loop-i-preserved-in_default c = found_sign c.args.store.now c.loop-i.i c.loop-i.letters (sound_in c.args.store.now) (omega arith) c.loop-i.invariant
+loop-i-preserved-in_default c = found_sign c.args.store.now c.loop-i.i c.loop-i.letters (sound_in c.args.store.now) (omega arith)
+    c.loop-i.invariant
     c.in_default.field-0 _ c.in_default.ensures.2
 
 pub loop-i-preserved : goal.loop-i-preserved
