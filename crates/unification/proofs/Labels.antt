@@ -1,5 +1,6 @@
 -- Labels of places: two classes made one by relabelling, and how many classes are left.
-use Rattle.std.proofs.Common.{◌≡◌, ℕ, zero, suc, ◌<◌, ◌≤◌, Bool, true, false, cond, eqb, List, length, get_or, sym, refl, ap, ◌∙◌, subst, ⊎_elim, arith}
+use Rattle.std.proofs.Common.{◌≡◌, ℕ, zero, suc, ◌<◌, ◌≤◌, Bool, true, false, cond, eqb, List, length, get_or, sym, refl, ap, ◌∙◌, subst}
+use Rattle.std.proofs.Common.{⊎_elim, arith}
 use Rattle.std.proofs.Common.{eqb-true}
 use borrow.Author.Tests.{eqb-false}
 use Rattle.std.specs.List.{All}
@@ -16,7 +17,8 @@ pub record RelabelledBelow (n : ℕ) (xs : List Place) (a b : Place) (ys : List 
   pub long : length ys ≡ 96
   pub low : All (λ p. p.0 < 96) ys
   pub moved : (i : ℕ) → i < n → (get_or xs i (record { 0 = 0 })).0 ≡ a.0 → (get_or ys i (record { 0 = 0 })).0 ≡ b.0
-  pub kept : (i : ℕ) → i < n → ((get_or xs i (record { 0 = 0 })).0 ≡ a.0 → ⊥) → get_or ys i (record { 0 = 0 }) ≡ get_or xs i (record { 0 = 0 })
+  pub kept : (i : ℕ) → i < n → ((get_or xs i (record { 0 = 0 })).0 ≡ a.0 → ⊥) → get_or ys i (record { 0 = 0 }) ≡ get_or xs i
+      (record { 0 = 0 })
   pub rest : (i : ℕ) → n ≤ i → get_or ys i (record { 0 = 0 }) ≡ get_or xs i (record { 0 = 0 })
 
 -- how many labels there are, if no place becomes one

@@ -1,5 +1,6 @@
 -- Classes of places. Each place has a label, the place by which its class is known; a class with signs is known by one of them.
-use Rattle.std.specs.Prelude.{◌≡◌, ℕ, zero, suc, ◌+◌, ◌<◌, cond, Some, None, Option as Maybe, Ok, Err, Result, MatchResult, ◌==◌, ◌≢◌, slice_index_or}
+use Rattle.std.specs.Prelude.{◌≡◌, ℕ, zero, suc, ◌+◌, ◌<◌, cond, Some, None, Option as Maybe, Ok, Err, Result, MatchResult, ◌==◌, ◌≢◌}
+use Rattle.std.specs.Prelude.{slice_index_or}
 use denote.Struct.Props as logic
 use Rattle.rewriting.specs.Terms.{Term, letter, sign, Terms, none1, and1, put}
 use Rattle.store.specs.declared.types.Store.{Store}

@@ -1,6 +1,6 @@
 // Closing classes: the parts of signs in one class are merged, until no class has two different signs or parts in different classes.
 ghost use Rattle.std.specs.Prelude.{◌≡◌, ◌<◌, ◌≤◌};
-ghost use Rattle.store.specs.Stores.{Sound, arity_in};
+ghost use Rattle.store.specs.Stores.{arity_in};
 ghost use Rattle.unification.specs.Classes.{Labelled, Labelled-prop, Merged, Checked, CheckedAt, Saturated, ClosureOf, FirstDifference};
 
 use crate::types::{Clash, Classes};
@@ -18,7 +18,7 @@ struct Closing<'s, 'a> {
 impl Closing<'_, '_> {
     // Makes the classes of two places one. It is known by a sign, if there is one.
     fn merge(&mut self, p: Place, q: Place)
-        requires { (Sound self.old.store.now) × ((p.0 < self.old.store.now.count) × (q.0 < self.old.store.now.count)) }
+        requires { (p.0 < self.old.store.now.count) × (q.0 < self.old.store.now.count) }
         ensures store { self.new.store.now ≡ self.old.store.now }
         ensures merged { Merged self.old.store.now self.old.classes p.0 q.0 self.new.classes }
     {
@@ -32,7 +32,6 @@ impl Closing<'_, '_> {
 
     // The first of n parts at which the parts of two signs are in different classes.
     fn first_difference(&self, p: Place, q: Place, n: usize) -> Option<usize>
-        requires sound { Sound self.now.store.now }
         requires p { (p.0 < self.now.store.now.count) × (arity_in self.now.store.now p.0 ≡ n) }
         requires q { (q.0 < self.now.store.now.count) × (arity_in self.now.store.now q.0 ≡ n) }
         ensures { FirstDifference self.now.store.now self.now.classes p.0 q.0 n result }
@@ -43,7 +42,7 @@ impl Closing<'_, '_> {
 
     // Compares the sign at a place with the one that its class is known by: two parts that have to be in one class, if any.
     fn check_at(&self, p: Place) -> Result<Option<(Place, Place)>, Clash>
-        requires { (Sound self.now.store.now) × (p.0 < self.now.store.now.count) }
+        requires { p.0 < self.now.store.now.count }
         ensures { CheckedAt self.now.store.now self.now.classes p.0 result }
     {
         let Node::Sign(f, n) = self.store.view(p) else {
@@ -64,7 +63,6 @@ impl Closing<'_, '_> {
 
     // Two places that have to be in one class and are not, if the classes are not closed.
     fn check(&self) -> Result<Option<(Place, Place)>, Clash>
-        requires { Sound self.now.store.now }
         ensures { Checked self.now.store.now self.now.classes result }
     {
         for i in 0..self.store.count {
@@ -77,7 +75,6 @@ impl Closing<'_, '_> {
 
     // Merges classes until they are closed, unless signs clash.
     fn saturate(&mut self) -> Result<(), Clash>
-        requires { Sound self.old.store.now }
         ensures { Saturated self.old.store.now self.old.classes self.new.classes result }
     {
         while let Some((p, q)) = self.check()? {
@@ -89,7 +86,7 @@ impl Closing<'_, '_> {
 
 // The least closed classes with two places in one, unless signs clash.
 pub fn close(store: &Store, p: Place, q: Place) -> Result<Classes, Clash>
-    requires { (Sound store.now) × ((store.now.count ≤ 96) × ((p.0 < store.now.count) × (q.0 < store.now.count))) }
+    requires { (store.now.count ≤ 96) × ((p.0 < store.now.count) × (q.0 < store.now.count)) }
     ensures { ClosureOf store.now p q result }
 {
     let mut closing = Closing {

@@ -1,6 +1,6 @@
 // Images of classes: none at first, and then built from the images of parts.
 ghost use Rattle.std.specs.Prelude.{◌≡◌, ℕ, ◌<◌, ◌≤◌, replicate, Some, None, slice_set};
-ghost use Rattle.store.specs.Stores.{Sound, arity_in};
+ghost use Rattle.store.specs.Stores.{arity_in};
 ghost use Rattle.unification.specs.Images.{image, Complete, PartImages};
 
 use crate::types::{Classes, Images};
@@ -29,7 +29,7 @@ impl Images {
 
     // The images of the parts of the sign at a place, if they all are built.
     pub fn parts(&self, store: &Store, classes: &Classes, p: Place, n: usize) -> Option<[Place; 4]>
-        requires sound { (Sound store.now) × ((p.0 < store.now.count) × (p.0 < 96)) }
+        requires place { (p.0 < store.now.count) × (p.0 < 96) }
         requires arity { (arity_in store.now p.0 ≡ n) × (n ≤ 4) }
         ensures { PartImages store.now classes.now self.now p.0 n result }
     {

@@ -1,5 +1,4 @@
 // Where the letters of a store stand.
-ghost use Rattle.store.specs.Stores.{Sound};
 ghost use Rattle.unification.specs.Unifiers.{AllBound, LettersFound};
 
 use engine::types::Bindings;
@@ -13,7 +12,6 @@ fn all_bound(letters: &Bindings) -> bool
 
 // The places of the letters, if the letters of the store are just those below 32.
 pub fn find_letters(store: &Store) -> Option<Bindings>
-    requires { Sound store.now }
     ensures { LettersFound store.now result }
 {
     let mut letters = Bindings::new();

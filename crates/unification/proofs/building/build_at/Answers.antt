@@ -9,10 +9,11 @@ share_sign-requires c =
     let b = c.requires.0 in
     let m = c.args.images.now in
     let s = c.in-Sign.ensures in
-    let h = nones_some m.at c.args.p.0 (omega (arith, b.few, b.full)) (image_none c.get.result c.is_some.result c.get.ensures c.is_some.ensures c.if-is_some.false) in
+    let h = nones_some m.at c.args.p.0 (omega (arith, b.few, b.full)) (image_none c.get.result
+    c.is_some.result c.get.ensures c.is_some.ensures c.if-is_some.false) in
     let i = parts_inside c.args.store.now c.args.n c.args.classes.now m c.args.p b (omega arith) c.in-Sign.f
     c.in-Sign.m s.1 s.2 c.in-Some.parts c.in-Some.ensures in
-    (b.sound, (s.0, (i, omega (arith, b.space))))
+    (s.0, (i, omega (arith, b.space)))
 
 pub returns-in-Letter : goal.returns-in-Letter
 returns-in-Letter c =

@@ -1,5 +1,6 @@
 -- A sign or a letter more; all letters, or not.
 use Rattle.std.proofs.Common.{◌≡◌, ℕ, sym, subst, arith}
+use Rattle.store.proofs.Sounds.{sound_in}
 use Rattle.unification.specs.Unifiers.{LettersFound}
 use Rattle.unification.proofs.Lettering.{FoundBelow, found_none, found_sign, found_letter, letters_found}
 use Rattle.unification.proofs.letters.find_letters.Goals as goal
@@ -8,11 +9,12 @@ pub loop-i-init : goal.loop-i-init
 loop-i-init c = found_none c.args.store.now c.new-letters.result c.new-letters.ensures
 
 pub loop-i-preserved-in_default : goal.loop-i-preserved-in_default
-loop-i-preserved-in_default c = found_sign c.args.store.now c.loop-i.i c.loop-i.letters c.requires (omega arith) c.loop-i.invariant
+loop-i-preserved-in_default c = found_sign c.args.store.now c.loop-i.i c.loop-i.letters (sound_in c.args.store.now) (omega arith)
+    c.loop-i.invariant
     c.in_default.field-0 _ c.in_default.ensures.2
 
 pub loop-i-preserved : goal.loop-i-preserved
-loop-i-preserved c = found_letter c.args.store.now c.loop-i.i c.loop-i.letters c.requires (omega arith) c.loop-i.invariant
+loop-i-preserved c = found_letter c.args.store.now c.loop-i.i c.loop-i.letters (sound_in c.args.store.now) (omega arith) c.loop-i.invariant
     c.in-Letter.x (omega arith) c.in-Letter.ensures.1
 
 pub returns : goal.returns
