@@ -1,5 +1,5 @@
 // The tokens of the readable form, and where they stand in the text.
-ghost use Rattle.std.specs.Prelude.{◌≡◌, ◌+◌, ◌^◌, ◌<◌, ◌≤◌, ◌↔◌, ◌||◌, IsTrue, T, length, nat_le, nat_lt, not};
+ghost use Rattle.std.specs.Prelude.{◌≡◌, ◌+◌, ◌^◌, ◌<◌, ◌≤◌, ◌↔◌, ◌||◌, IsTrue, length, nat_le, nat_lt, not};
 ghost use Rattle.lexing.specs.declared.lexer.Kind.TheVariants.{Name};
 ghost use Rattle.lexing.specs.Tokens.{nameByte, kind, Extent, TokenOf};
 
@@ -58,7 +58,10 @@ impl Token<'_> {
 }
 
 fn is_reserved(word: &[u8]) -> bool {
-    matches!(word, b"signs" | b"rank" | b"letters" | b"equations" | b"rules")
+    matches!(
+        word,
+        b"signs" | b"rank" | b"letters" | b"equations" | b"rules"
+    )
 }
 
 fn is_name_byte(b: u8) -> bool
@@ -100,18 +103,14 @@ fn skip_blanks(text: &[u8], from: usize) -> usize
     ensures on { from ≤ length text.now → from ≤ result }
 {
     let mut comment = false;
-    find_from(
-        text,
-        from,
-        |b| {
-            match b {
-                b'#' => comment = true,
-                b'\n' => comment = false,
-                _ => return !comment && !b.is_ascii_whitespace(),
-            }
-            false
-        },
-    )
+    find_from(text, from, |b| {
+        match b {
+            b'#' => comment = true,
+            b'\n' => comment = false,
+            _ => return !comment && !b.is_ascii_whitespace(),
+        }
+        false
+    })
 }
 
 // The place after the token of this kind that goes on at `from`.

@@ -10,7 +10,7 @@ use std::alloc::{AllocError, Global};
 pub const MOST_TERM: usize = 13_056;
 
 // What a line holds.
-// Stays beside the pair that it is read into: one pair's space serves all lines, and a loop over lines can't hand on what it lent in a turn.
+// Stays beside the lent pair: one pair's space serves all lines, and a loop over lines can't return what one turn lent.
 #[derive(Clone, Copy, Debug, PartialEq, Eq)]
 pub enum Line {
     // nothing but blanks and a comment

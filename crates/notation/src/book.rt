@@ -56,7 +56,11 @@ pub fn parse(heap: Global, text: &str) -> Result<Book, Error>
     let mut names = Names::new(heap, text.as_bytes());
     let signs = names.take_signs()?;
     names.take_letters()?;
-    let Names { cursor, signature, .. } = names;
+    let Names {
+        cursor,
+        signature,
+        ..
+    } = names;
     let mut parser = Parser {
         cursor,
         signature: &signature,

@@ -61,7 +61,10 @@ impl<'a> Names<'a> {
                 self.cursor.advance();
                 Ok(n)
             }
-            _ => Err(self.cursor.fault(Expected::Words("a number of parts from 0 to 4"))),
+            _ => Err(
+                self.cursor
+                    .fault(Expected::Words("a number of parts from 0 to 4")),
+            ),
         }
     }
 
@@ -92,10 +95,16 @@ impl<'a> Names<'a> {
             (true, true) => self.rank()?,
             (false, false) => number,
             (true, false) => {
-                return Err(self.cursor.fault(Expected::Words("`rank`, as for the signs before")));
+                return Err(
+                    self.cursor
+                        .fault(Expected::Words("`rank`, as for the signs before")),
+                );
             }
             (false, true) => {
-                return Err(self.cursor.fault(Expected::Words("no rank, as for the signs before")));
+                return Err(
+                    self.cursor
+                        .fault(Expected::Words("no rank, as for the signs before")),
+                );
             }
         };
         Ok(self.signature.signs.push(Sign { name, parts, rank })?)

@@ -29,9 +29,11 @@ impl Parser<'_> {
         ensures other { vec_len pair.new.other ≤ MOST_TERM }
     {
         self.term(&mut pair.one, TERM)?;
-        self.cursor.expect(Kind::Equals, Expected::Words("`=` and the other term"))?;
+        self.cursor
+            .expect(Kind::Equals, Expected::Words("`=` and the other term"))?;
         self.term(&mut pair.other, TERM)?;
-        self.cursor.expect(Kind::End, Expected::Words("the end of the line"))
+        self.cursor
+            .expect(Kind::End, Expected::Words("the end of the line"))
     }
 }
 

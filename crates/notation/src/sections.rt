@@ -33,12 +33,7 @@ pub(crate) struct Sides {
 
 impl Parser<'_> {
     // Takes two sides with the mark between them.
-    fn sides(
-        &mut self,
-        row: &mut Vec<u32>,
-        mark: Kind,
-        expected: &'static str,
-    ) -> Result<(), Error>
+    fn sides(&mut self, row: &mut Vec<u32>, mark: Kind, expected: &'static str) -> Result<(), Error>
         ensures { vec_len row.new ≤ vec_len row.old + 128 }
     {
         self.term(row, SIDE)?;
@@ -75,7 +70,10 @@ impl Parser<'_> {
             };
             self.term(ways, limits)?;
         }
-        Err(self.cursor.fault(Expected::AtMost(u32::MAX as usize, "terms of a way")))
+        Err(
+            self.cursor
+                .fault(Expected::AtMost(u32::MAX as usize, "terms of a way")),
+        )
     }
 
     // Takes the way of a rule: adds to the ways' row how many terms it has, and these.
@@ -84,7 +82,10 @@ impl Parser<'_> {
     {
         let start = ways.len();
         if start >= MOST_WORDS {
-            return Err(self.cursor.fault(Expected::AtMost(MOST_WORDS, "words of ways")));
+            return Err(
+                self.cursor
+                    .fault(Expected::AtMost(MOST_WORDS, "words of ways")),
+            );
         }
         ways.push(0)?;
         let count = self.way_terms(ways)?;

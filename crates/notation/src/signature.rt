@@ -32,14 +32,20 @@ impl Signature {
     fn sign_named(&self, name: &[u8]) -> Option<u32>
         ensures { IfSome result (SignNamed self.now.signs name.now) }
     {
-        let place = self.signs.iter().position(|sign| sign.name.as_bytes() == name)?;
+        let place = self
+            .signs
+            .iter()
+            .position(|sign| sign.name.as_bytes() == name)?;
         u32::try_from(place).ok()
     }
 
     fn letter_named(&self, name: &[u8]) -> Option<u32>
         ensures { IfSome result (LetterNamed self.now.letters name.now) }
     {
-        let place = self.letters.iter().position(|letter| letter.as_bytes() == name)?;
+        let place = self
+            .letters
+            .iter()
+            .position(|letter| letter.as_bytes() == name)?;
         u32::try_from(place).ok()
     }
 
@@ -60,6 +66,9 @@ impl Signature {
 
     // Whether the ranks are 0, 1, 2 and so on.
     pub fn ranks_rise(&self) -> bool {
-        self.signs.iter().zip(0..u32::MAX).all(|(sign, rank)| sign.rank == rank)
+        self.signs
+            .iter()
+            .zip(0..u32::MAX)
+            .all(|(sign, rank)| sign.rank == rank)
     }
 }

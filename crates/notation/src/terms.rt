@@ -45,11 +45,15 @@ impl<'a> Parser<'a> {
                 self.letter(row, x)?;
                 Ok(None)
             }
-            Some(Symbol::Letter(_)) => Err(self.cursor.fault(Expected::Words(
-                "one of the first 16 letters",
-            ))),
+            Some(Symbol::Letter(_)) => Err(
+                self.cursor
+                    .fault(Expected::Words("one of the first 16 letters")),
+            ),
             Some(Symbol::Sign(f)) => self.sign(row, f),
-            None => Err(self.cursor.fault(Expected::Words("the name of a sign or a letter"))),
+            None => Err(
+                self.cursor
+                    .fault(Expected::Words("the name of a sign or a letter")),
+            ),
         }
     }
 
@@ -60,7 +64,10 @@ impl<'a> Parser<'a> {
         row.push(letter)?;
         self.cursor.advance();
         if self.cursor.token.is(Kind::Open) {
-            return Err(self.cursor.fault(Expected::Words("no bracket after a letter")));
+            return Err(
+                self.cursor
+                    .fault(Expected::Words("no bracket after a letter")),
+            );
         }
         Ok(())
     }
