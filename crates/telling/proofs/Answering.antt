@@ -19,29 +19,24 @@ module _ (s h x y : List ℕ) (w : ℕ) (enough : TooFew w (length s + (length h
   by : (r : Judged) → (r ≡ Settles → ⊥) → (r ≡ Room → ⊥) → (r ≡ Few → ⊥) → JudgedSays s h r → ToldPost s h x y w Unsettled
   by r other room few says = record {
     says = excludes s h r other room few says;
-    full = λ e. let z : ◌≡◌ {A = ℕ} 0 1 = cc in absurd (omega arith);
-    unjudged = λ e. let z : ◌≡◌ {A = ℕ} 0 1 = cc in absurd (omega arith);
-    small = (λ small. absurd (enough small), λ e. let z : ◌≡◌ {A = ℕ} 0 1 = cc in absurd (omega arith));
+    full = λ e. cc;
+    unjudged = λ e. cc;
+    small = (λ small. absurd (enough small), λ e. cc);
     parts = theorems;
   }
 
   at : (r : Judged) → (r ≡ Settles → ⊥) → JudgedPost s h w r → ToldPost s h x y w (not_settled r)
   at Settles other p = absurd (other refl)
-  at (Up i) other p =
-      by (Up i) other (λ e. let z : ◌≡◌ {A = ℕ} 0 1 = cc in omega arith) (λ e. let z : ◌≡◌ {A = ℕ} 0 1 = cc in omega arith) p.says
-  at Apart other p =
-      by Apart other (λ e. let z : ◌≡◌ {A = ℕ} 0 1 = cc in omega arith) (λ e. let z : ◌≡◌ {A = ℕ} 0 1 = cc in omega arith) p.says
-  at (Lost i) other p =
-      by (Lost i) other (λ e. let z : ◌≡◌ {A = ℕ} 0 1 = cc in omega arith) (λ e. let z : ◌≡◌ {A = ℕ} 0 1 = cc in omega arith) p.says
-  at Stray other p =
-      by Stray other (λ e. let z : ◌≡◌ {A = ℕ} 0 1 = cc in omega arith) (λ e. let z : ◌≡◌ {A = ℕ} 0 1 = cc in omega arith) p.says
-  at NoBook other p =
-      by NoBook other (λ e. let z : ◌≡◌ {A = ℕ} 0 1 = cc in omega arith) (λ e. let z : ◌≡◌ {A = ℕ} 0 1 = cc in omega arith) p.says
+  at (Up i) other p = by (Up i) other (λ e. cc) (λ e. cc) p.says
+  at Apart other p = by Apart other (λ e. cc) (λ e. cc) p.says
+  at (Lost i) other p = by (Lost i) other (λ e. cc) (λ e. cc) p.says
+  at Stray other p = by Stray other (λ e. cc) (λ e. cc) p.says
+  at NoBook other p = by NoBook other (λ e. cc) (λ e. cc) p.says
   at Room other p = record {
     says = tt;
-    full = λ e. let z : ◌≡◌ {A = ℕ} 0 1 = cc in absurd (omega arith);
+    full = λ e. cc;
     unjudged = λ e. (p.says, p.room refl);
-    small = (λ small. absurd (enough small), λ e. let z : ◌≡◌ {A = ℕ} 0 1 = cc in absurd (omega arith));
+    small = (λ small. absurd (enough small), λ e. cc);
     parts = theorems;
   }
   at Few other p = absurd (enough (omega (arith, p.few.1 refl)))

@@ -1,5 +1,5 @@
 -- What is found of the book goes on to its terms.
-use Rattle.std.proofs.Common.{◌≡◌, ℕ, length, refl, arith}
+use Rattle.std.proofs.Common.{length, refl}
 use Rattle.engine.specs.Meeting.{most_parts}
 use Rattle.equal.proofs.Promised.{judged_few, judged_post, room_for}
 use Rattle.equal.proofs.Sides.{ample_kept}
@@ -9,16 +9,8 @@ use Rattle.telling.proofs.session.tell_pairs.Goals as goal
 pub tell_refused-requires : goal.tell_refused-requires
 tell_refused-requires g c = (
   judged_few c.args.book.now c.args.ways.now (length c.args.work.now) (c.if-too_few.ensures.holds refl),
-  λ e. let z : ◌≡◌ {A = ℕ} 0 1 = cc in omega arith,
+  λ e. cc,
 )
-
-pub new-requires : goal.new-requires
-new-requires g c =
-    let s = c.args.book.now in
-    let h = c.args.ways.now in
-    let w = length c.args.work.now in
-    let room = room_for s h w c.in-Some.share c.in-Some.ensures.1 (c.if-too_few.ensures.fails refl) in
-    (c.in-Settles.ensures (most_parts w) room).says
 
 pub tell_settled-requires : goal.tell_settled-requires
 tell_settled-requires g c =
