@@ -17,7 +17,7 @@ use Rattle.store.specs.Stores.{term_in, held}
 use Rattle.store.specs.Stacks.{root_in, StackedOn}
 use Rattle.store.proofs.Cases.{le_or_lt, below_next}
 use Rattle.books.specs.declared.row.Book.{Book}
-use Rattle.books.specs.Books.{told, blank, rule_in, SoundBook}
+use Rattle.books.specs.Books.{told, blank, rule_in, SoundBook, sound_book_in}
 use Rattle.books.proofs.Elements.{nth_is, nth_below}
 use Rattle.books.proofs.Bookish.{is_rule}
 use Rattle.engine.specs.declared.types.Frames.{Frames}
@@ -38,13 +38,13 @@ module _ (b : Book) (su : Store) (w : Working b su) (o : Overlap) (stands : Stan
   peak_term = put l.s (rule_in b o.outer).left
 
   is_p : nth (told b).rules o.outer ≡ some (rule_in b o.outer)
-  is_p = is_rule b w.book o.outer stands.outer
+  is_p = is_rule b (sound_book_in b) o.outer stands.outer
 
   is_q : nth (told b).rules o.inner ≡ some (rule_in b o.inner)
-  is_q = is_rule b w.book o.inner stands.inner
+  is_q = is_rule b (sound_book_in b) o.inner stands.inner
 
   fit : (i : ℕ) (r : Eq) → nth (told b).rules i ≡ some r → Fits (told b).parts r.left
-  fit i r e = over_fits (told b).parts SmallLetter r.left (w.book.reads.fine.rules i r e).left
+  fit i r e = over_fits (told b).parts SmallLetter r.left ((sound_book_in b).reads.fine.rules i r e).left
 
   peak_fits : Fits (told b).parts peak_term
   peak_fits = over_put (told b).parts AnyLetter AnyLetter l.s (rule_in b o.outer).left (fit o.outer _ is_p)
@@ -60,10 +60,10 @@ module _ (b : Book) (su : Store) (w : Working b su) (o : Overlap) (stands : Stan
   second_step = overlap_step place l.s o.inner (rule_in b o.inner) is_q l.one
 
   pub first_fits : Fits (told b).parts (put l.s (rule_in b o.outer).right)
-  first_fits = step_keeps (told b) w.book.reads.fine w.down first_step peak_fits
+  first_fits = step_keeps (told b) (sound_book_in b).reads.fine w.down first_step peak_fits
 
   pub second_fits : Fits (told b).parts (fill place l.s (put l.s (renamed (rule_in b o.inner).right)))
-  second_fits = step_keeps (told b) w.book.reads.fine w.down second_step peak_fits
+  second_fits = step_keeps (told b) (sound_book_in b).reads.fine w.down second_step peak_fits
 
   peak_here : (f : ℕ) (vs : Terms) → v ≡ sign f vs → Peak (told b).rules peak_term
   peak_here f vs e = subst

@@ -120,7 +120,7 @@ fresh_honest rs st f = record {
 -- all that building an instance asks for
 abbrev pub CanFill : List ℕ → List ℕ → Bindings → Store → Type 0
 CanFill ps ws u st = (FewParts ps × ((t : Term) × Fillable ps ws u t))
-    × (Sound st × ((st.count + 32 ≤ st.limit) × AllInside st u))
+    × ((st.count + 32 ≤ st.limit) × AllInside st u)
 
 -- the letters, the part, and the other left side are made in a cleared store
 module _ {b : Book} {o : Overlap} {st a0 a1 : Store} {ls : Bindings} {ps ws : List ℕ} (sound : SoundBook b) (stands : Stands b o)
@@ -140,7 +140,7 @@ module _ {b : Book} {o : Overlap} {st a0 a1 : Store} {ls : Bindings} {ps ws : Li
   pub part_fills : CanFill ps (take (o.to - o.from) (drop o.from ws)) ls a1
   part_fills = (
     (few_parts b sound ps ep, (stands.part, part_of stands.part stands.place stands.at)),
-    (made.sound, (letters_space, letters_inside a0 a1 ls made)),
+    (letters_space, letters_inside a0 a1 ls made),
   )
 
   module _ {a2 : Store} {part : Place} {rs : Bindings} {qs vs : List ℕ}
@@ -162,7 +162,7 @@ module _ {b : Book} {o : Overlap} {st a0 a1 : Store} {ls : Bindings} {ps ws : Li
     other_fillable = left_fillable b sound qs eq o.inner stands.inner vs rs ev (shifted_bound ls rs sh letter_bound)
 
     pub other_fills : CanFill qs vs rs a2
-    other_fills = ((few_parts b sound qs eq, ((rule_in b o.inner).left, other_fillable)), (one.sound, (part_space, renamed_inside)))
+    other_fills = ((few_parts b sound qs eq, ((rule_in b o.inner).left, other_fillable)), (part_space, renamed_inside))
 
     module _ {a3 : Store} {other : Place} (built2 : (t : Term) → Fillable qs vs rs t → RowInstanceBuilt a2 rs t a3 other) where
       second : RowInstanceBuilt a2 rs (rule_in b o.inner).left a3 other
@@ -213,13 +213,13 @@ module _ {b : Book} {o : Overlap} {st a0 a1 : Store} {ls : Bindings} {ps ws : Li
 
 -- the two results
 module _ {b : Book} {o : Overlap} {st : Store} {u : Bindings} {ps ws : List ℕ} (sound : SoundBook b) (stands : Stands b o)
-    (given : AllGiven st u) (sound0 : Sound st) (space : st.count + 96 ≤ st.limit)
+    (given : AllGiven st u) (space : st.count + 96 ≤ st.limit)
     (ep : ps ≡ (told b).parts) (ew : ws ≡ row (rule_in b o.outer).right) where
   outer_fillable : Fillable ps ws u (rule_in b o.outer).right
   outer_fillable = right_fillable b sound ps ep o.outer stands.outer ws u ew (λ x l. given.all x (omega arith))
 
   pub outer_fills : CanFill ps ws u st
-  outer_fills = ((few_parts b sound ps ep, ((rule_in b o.outer).right, outer_fillable)), (sound0, (omega arith, given.inside)))
+  outer_fills = ((few_parts b sound ps ep, ((rule_in b o.outer).right, outer_fillable)), (omega arith, given.inside))
 
   module _ {a1 : Store} {one : Place} {us : Bindings} {qs vs : List ℕ}
       (built : (t : Term) → Fillable ps ws u t → RowInstanceBuilt st u t a1 one)
@@ -239,7 +239,7 @@ module _ {b : Book} {o : Overlap} {st : Store} {u : Bindings} {ps ws : List ℕ}
     pub inner_fills : CanFill qs vs us a1
     inner_fills = (
       (few_parts b sound qs eq, ((rule_in b o.inner).right, inner_fillable)),
-      (first.sound, (omega (arith, first_space), shifted_there)),
+      (omega (arith, first_space), shifted_there),
     )
 
     module _ {a2 : Store} {inner : Place} {uh : Bindings} {ds hs xs : List ℕ}
@@ -268,7 +268,7 @@ module _ {b : Book} {o : Overlap} {st : Store} {u : Bindings} {ps ws : List ℕ}
           few_parts b sound hs eh,
           (fill stands.place letter (letter 16), context_of stands.part stands.place stands.at),
         ),
-        (middle.sound, (inner_space, filling_inside)),
+        (inner_space, filling_inside),
       )
 
       pub results_built : {a3 : Store} {two : Place} →
@@ -296,9 +296,7 @@ pub pair_found : (b : Book) (o : Overlap) (st su sv : Store) (u : Bindings) (r :
     UnifierFound b o st su (Some u) → ResultsBuilt b o su u sv r → PairFound b o st sv (Some r)
 pair_found b o st su sv u r w f m = record {
   working = record {
-    book = w.book;
     down = w.down;
-    sound = m.sound;
     honest = fresh_honest (told b).rules sv (fresh_grown su sv m.grown f.fresh);
   };
   room = m.grown.room ∙ f.room;
@@ -307,7 +305,7 @@ pair_found b o st su sv u r w f m = record {
 
 pub none_found : (b : Book) (o : Overlap) (st su : Store) → Working b st → UnifierFound b o st su None → PairFound b o st su None
 none_found b o st su w f = record {
-  working = record { book = w.book; down = w.down; sound = f.sound; honest = fresh_honest (told b).rules su f.fresh };
+  working = record { down = w.down; honest = fresh_honest (told b).rules su f.fresh };
   room = f.room;
   pair = λ v place at. f.unified v place at;
 }

@@ -1,6 +1,5 @@
 // The letters of two rules in a store: those of the second are renamed.
 ghost use Rattle.std.specs.Prelude.{◌≡◌, ◌+◌, ◌≤◌};
-ghost use Rattle.store.specs.Stores.{Sound};
 ghost use Rattle.engine.specs.Matching.{Bound};
 ghost use Rattle.overlaps.specs.Pairs.{Shifted};
 ghost use Rattle.overlaps.specs.Pairs.{LettersMade};
@@ -12,7 +11,7 @@ use store::{Place, Store};
 
 // The places of all 32 letters, added to a store with nothing in it.
 pub fn all_letters(store: &mut Store) -> Bindings
-    requires { (Sound store.old) × ((store.old.count ≡ 0) × (32 ≤ store.old.limit)) }
+    requires { (store.old.count ≡ 0) × (32 ≤ store.old.limit) }
     ensures { LettersMade 32 store.old store.new result }
 {
     let mut letters = Bindings::new();

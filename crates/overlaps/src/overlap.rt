@@ -6,7 +6,6 @@ ghost use Rattle.rewriting.specs.Terms.{size};
 ghost use Rattle.rewriting.specs.Answers.{Tells};
 ghost use Rattle.books.specs.Books.{told};
 ghost use Rattle.books.specs.Books.{rule_in};
-ghost use Rattle.books.specs.Books.{SoundBook};
 ghost use Rattle.overlaps.specs.Positions.{holed, SameSign, OverlapOrNone};
 
 use crate::types::{HOLE, Overlap, Row};
@@ -23,7 +22,7 @@ fn same_sign(row: &[u32], at: usize, other: &[u32]) -> bool
 
 // The overlap at symbol k of rule i's left side, if the sign of rule j's left side stands there.
 pub fn overlap_at(book: &Book, i: usize, j: usize, k: usize) -> Option<Overlap>
-    requires sound_book { (SoundBook book.now) × (AllDown (rank (told book.now).ranks) (told book.now).rules) }
+    requires down { AllDown (rank (told book.now).ranks) (told book.now).rules }
     requires i_in_bounds { (i < length (told book.now).rules) × (j < length (told book.now).rules) }
     requires k_bound { k < size (rule_in book.now i).left }
     ensures { OverlapOrNone book.now i j k result }

@@ -1,13 +1,8 @@
 // Critical pairs: the two results where two rules meet.
-ghost use Rattle.std.specs.Prelude.{◌+◌, ◌<◌, ◌≤◌};
-ghost use Rattle.store.specs.Stores.{Sound};
-ghost use Rattle.books.specs.Books.{SoundBook};
+ghost use Rattle.std.specs.Prelude.{◌+◌, ◌≤◌};
 ghost use Rattle.engine.specs.Meeting.{Working};
+ghost use Rattle.overlaps.specs.Pairs.{AllGiven, PairFound, ResultsBuilt, UnifierFound};
 ghost use Rattle.overlaps.specs.Positions.{Stands};
-ghost use Rattle.overlaps.specs.Pairs.{UnifierFound};
-ghost use Rattle.overlaps.specs.Pairs.{ResultsBuilt};
-ghost use Rattle.overlaps.specs.Pairs.{AllGiven};
-ghost use Rattle.overlaps.specs.Pairs.{PairFound};
 
 use crate::letters::{all_letters, bind_hole, shifted};
 use crate::overlap::with_hole;
@@ -20,7 +15,7 @@ use unification::unify;
 
 // The least replacement that makes the part and the other rule's left side one, in a store that is cleared for it.
 fn unifier(book: &Book, overlap: Overlap, store: &mut Store) -> Option<Bindings>
-    requires { (SoundBook book.now) × ((Stands book.now overlap) × ((Sound store.old) × (512 ≤ store.old.room))) }
+    requires { (Stands book.now overlap) × (512 ≤ store.old.room) }
     ensures { UnifierFound book.now overlap store.old store.new result }
 {
     store.clear();
@@ -36,8 +31,8 @@ fn unifier(book: &Book, overlap: Overlap, store: &mut Store) -> Option<Bindings>
 
 // The two results, with what is put for letters: by the outer rule at the top, and by the inner one at the part.
 fn results(book: &Book, overlap: Overlap, unifier: &Bindings, store: &mut Store) -> Pair
-    requires sound_book { (SoundBook book.now) × ((Stands book.now overlap) × (AllGiven store.old unifier.now)) }
-    requires sound { (Sound store.old) × (store.old.count + 96 ≤ store.old.limit) }
+    requires stands { (Stands book.now overlap) × (AllGiven store.old unifier.now) }
+    requires space { store.old.count + 96 ≤ store.old.limit }
     ensures { ResultsBuilt book.now overlap store.old unifier.now store.new result }
 {
     let first = row_instance(book.parts(), book.right(overlap.outer), unifier, store);

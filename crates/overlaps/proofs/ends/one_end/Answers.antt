@@ -1,7 +1,7 @@
 -- One overlap more; all symbols; all second rules; all rules; or one overlap tells already.
 use Rattle.std.proofs.Common.{◌≡◌, ◌*◌, Bool, Ok, length, sym, ap, ◌∙◌, subst, arith}
 use Rattle.rewriting.specs.Terms.{size}
-use Rattle.books.specs.Books.{rule_in}
+use Rattle.books.specs.Books.{rule_in, sound_book_in}
 use Rattle.books.proofs.Glueing.{row_length}
 use Rattle.overlaps.specs.Verdict.{OneEndSays, OverlapSays}
 use Rattle.overlaps.proofs.Judging.{joined_more, joined_symbols, joined_rules, all_joined}
@@ -14,7 +14,7 @@ results_meet-requires c =
     let d = idle_then (idle_then c.pairs.invariant.idle c.loop-j.invariant.idle) c.loop-k.invariant.idle in
     let long : length c.left.result.now ≡ 2 * size (rule_in b c.pairs.i).left =
     ap length c.left.ensures ∙ row_length (rule_in b c.pairs.i).left in
-    let rules = d.working.book.laid.rules in
+    let rules = (sound_book_in b).laid.rules in
     record {
       working = (d.working, (d.none, (c.requires.1.1.0, ample_still d c.requires.1.1.1)));
       i_in_bounds = (omega (arith, c.rules-rules.ensures), omega (arith, c.rules-rules.ensures));
@@ -50,7 +50,7 @@ pairs-preserved c =
     record {
       idle = idle_then c.pairs.invariant.idle c.loop-j.invariant.idle;
       joined = joined_rules b c.pairs.i c.loop-j.j 0
-          (omega (arith, c.rules-rules.ensures, c.pairs.invariant.idle.working.book.laid.rules)) c.loop-j.invariant.joined;
+          (omega (arith, c.rules-rules.ensures, (sound_book_in b).laid.rules)) c.loop-j.invariant.joined;
       none = c.loop-j.invariant.none;
     }
 
@@ -60,6 +60,6 @@ returns-after-pairs c =
     record {
       idle = c.pairs.invariant.idle;
       result = λ n a. subst (λ (x : Bool). OneEndSays b n (Ok x)) (sym c.pairs.invariant.none)
-          (all_joined b c.pairs.i 0 0 w.book w.down (omega (arith, c.rules-rules.ensures, w.book.laid.rules))
+          (all_joined b c.pairs.i 0 0 (sound_book_in b) w.down (omega (arith, c.rules-rules.ensures, (sound_book_in b).laid.rules))
           c.pairs.invariant.joined);
     }

@@ -1,15 +1,16 @@
 -- One letter more.
+use Rattle.store.proofs.Sounds.{sound_in}
 use Rattle.std.proofs.Common.{◌≡◌, ℕ, refl, subst, arith}
 use Rattle.overlaps.specs.Pairs.{LettersMade}
 use Rattle.overlaps.proofs.Lettering.{no_letters, one_letter}
 use Rattle.overlaps.proofs.letters.all_letters.Goals as goal
 
 pub loop-x-init : goal.loop-x-init
-loop-x-init c = no_letters c.args.store.now c.new-letters.result c.requires.0 c.requires.1.0 c.new-letters.ensures
+loop-x-init c = no_letters c.args.store.now c.new-letters.result (sound_in c.args.store.now) c.requires.0 c.new-letters.ensures
 
 pub share_letter-requires : goal.share_letter-requires
 share_letter-requires c =
-    let m = c.loop-x.invariant in (m.sound, omega (arith, m.few, m.grown.limit, c.requires.1.1))
+    let m = c.loop-x.invariant in omega (arith, m.few, m.grown.limit, c.requires.1)
 
 pub loop-x-preserved : goal.loop-x-preserved
 loop-x-preserved c = one_letter c.args.store.now c.loop-x.x c.loop-x.store c.loop-x.letters c.share_letter.new.self

@@ -7,7 +7,7 @@ results-requires c =
     let f = c.in_ok-unifier.ensures in
     let s = c.requires.1.0 in
     let u = f.unified s.part s.place s.at in
-    record { sound_book = (c.requires.0.book, (s, record { all = u.all; inside = u.inside })); sound = (f.sound, f.space) }
+    record { stands = (s, record { all = u.all; inside = u.inside }); space = f.space }
 
 pub returns : goal.returns
 returns c = pair_found c.args.book.now c.args.overlap c.args.store.now c.unifier.new.store
