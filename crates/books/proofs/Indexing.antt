@@ -1,121 +1,53 @@
 -- The index of rules, from the last rule to the first.
-use Rattle.std.proofs.Common.{◌≡◌, ℕ, ◌+◌, ◌<◌, ◌≤◌, ◌≢◌, List, length, get_or, set, replicate, sym, ap, ◌∙◌, arith, get_or-set_other}
-use Rattle.std.proofs.Common.{get_or-set_same}
+use Rattle.std.proofs.Common.{◌≡◌, ℕ, ◌+◌, ◌<◌, ◌≤◌, ◌≢◌, List, length, get_or, set, replicate, Some, None, Option as Maybe, sym, ap, ◌∙◌}
+use Rattle.std.proofs.Common.{refl, arith, get_or-set_other, get_or-set_same}
 use native.Mathlib.Decide.{ℕ_discrete}
 use lib.ListN.{get_or-replicate}
-use Rattle.books.specs.Indexing.{IndexedFrom}
+use Rattle.books.specs.Indexing.{FirstFrom, IndexedFrom}
 
 -- no rules
-pub index_none : (t : ℕ → ℕ) (n : ℕ) (N : List ℕ) → IndexedFrom t n n (replicate 32 n) N
+pub index_none : (t : ℕ → ℕ) (n : ℕ) (N : List (Maybe ℕ)) → IndexedFrom t n n (replicate 32 None) N
 index_none t n N = record {
-  first_above = λ f l. omega (arith, at f l);
-  first_low = λ f j l a b e. absurd (omega arith);
-  first_is = λ f l b. absurd (omega (arith, at f l));
-  next_above = λ i a b l. absurd (omega arith);
-  next_low = λ i j a b c l e. absurd (omega arith);
-  next_is = λ i a b l c. absurd (omega arith);
+  first = λ f l. rw (get_or-replicate {A = Maybe ℕ} 32 f None None l) (λ j a b. absurd (omega arith));
+  next = λ i a b. absurd (omega arith);
 }
-  where
-    at : (f : ℕ) → f < 32 → get_or (replicate 32 n) f 0 ≡ n
-    at f l = get_or-replicate 32 f n 0 l
 
-module _ (t : ℕ → ℕ) (n m : ℕ) (F N : List ℕ) (x : IndexedFrom t n (m + 1) F N) where
-  -- a rule that begins with no sign
-  pub index_pass : (32 ≤ t m) → IndexedFrom t n m F N
-  index_pass p = record {
-    first_above = λ f l. omega (arith, x.first_above f l);
-    first_low = λ f j l a b e. other f j l a b e (ℕ_discrete j m);
-    first_is = x.first_is;
-    next_above = λ i a b l. above i a b l (ℕ_discrete i m);
-    next_low = λ i j a b c l e. low i j a b c l e (ℕ_discrete i m);
-    next_is = λ i a b l c. is1 i a b l c (ℕ_discrete i m);
-  }
-    where
-      not_here : (i : ℕ) → t i < 32 → i ≡ m → ⊥
-      not_here i l e = omega (arith, ap t e)
+module _ (t : ℕ → ℕ) (n m : ℕ) where
+  past : (f : ℕ) → t m ≢ f → (j : ℕ) → t j ≡ f → m ≤ j → Dec (j ≡ m) → m + 1 ≤ j
+  past f ne j e a (yes d) = absurd (ne (ap t (sym d) ∙ e))
+  past f ne j e a (no d) = omega arith
 
-      other : (f j : ℕ) → f < 32 → m ≤ j → j < n → t j ≡ f → Dec (j ≡ m) → get_or F f 0 ≤ j
-      other f j l a b e (yes d) = absurd (omega (arith, ap t d))
-      other f j l a b e (no d) = x.first_low f j l (omega arith) b e
+  -- the first from a number on is the first from the one before on, where that has another sign
+  one_before : (f : ℕ) (o : Maybe ℕ) → t m ≢ f → FirstFrom t n (m + 1) f o → FirstFrom t n m f o
+  one_before f None ne h = λ j a b e. h j (past f ne j e a (ℕ_discrete j m)) b e
+  one_before f (Some i) ne h = (omega (arith, h.0), h.1, h.2, λ j a b e. h.3 j (past f ne j e a (ℕ_discrete j m)) b e)
 
-      above : (i : ℕ) → m ≤ i → i < n → t i < 32 → Dec (i ≡ m) → i < get_or N i 0
-      above i a b l (yes d) = absurd (not_here i l d)
-      above i a b l (no d) = x.next_above i (omega arith) b l
-
-      low : (i j : ℕ) → m ≤ i → i < j → j < n → t i < 32 → t j ≡ t i → Dec (i ≡ m) → get_or N i 0 ≤ j
-      low i j a b c l e (yes d) = absurd (not_here i l d)
-      low i j a b c l e (no d) = x.next_low i j (omega arith) b c l e
-
-      is1 : (i : ℕ) → m ≤ i → i < n → t i < 32 → get_or N i 0 < n → Dec (i ≡ m) → t (get_or N i 0) ≡ t i
-      is1 i a b l c (yes d) = absurd (not_here i l d)
-      is1 i a b l c (no d) = x.next_is i (omega arith) b l c
-
-  -- a rule with the sign g: it is the first with it, and the one that was is next
-  module _ (g : ℕ) (here1 : t m ≡ g) (low1 : g < 32) (wide : length F ≡ 32) (many : m < length N) where
-    firsts : List ℕ
-    firsts = set F g m
-
-    nexts : List ℕ
-    nexts = set N m (get_or F g 0)
-
-    first_here : get_or firsts g 0 ≡ m
-    unfolding firsts
-    first_here = get_or-set_same F g m 0 (omega arith)
-
-    first_other : (f : ℕ) → f ≢ g → get_or firsts f 0 ≡ get_or F f 0
-    unfolding firsts
-    first_other f ne = get_or-set_other F g f m 0 ne
-
-    next_here : get_or nexts m 0 ≡ get_or F g 0
-    unfolding nexts
-    next_here = get_or-set_same N m (get_or F g 0) 0 many
-
-    next_other : (i : ℕ) → i ≢ m → get_or nexts i 0 ≡ get_or N i 0
-    unfolding nexts
-    next_other i ne = get_or-set_other N m i (get_or F g 0) 0 ne
-
-    first_at : (f : ℕ) → f ≡ g → get_or firsts f 0 ≡ m
-    first_at f e = ap (λ (k : ℕ). get_or firsts k 0) e ∙ first_here
-
-    next_at : (i : ℕ) → i ≡ m → get_or nexts i 0 ≡ get_or F g 0
-    next_at i e = ap (λ (k : ℕ). get_or nexts k 0) e ∙ next_here
-
-    above : (f : ℕ) → f < 32 → Dec (f ≡ g) → m ≤ get_or firsts f 0
-    above f l (yes e) = omega (arith, first_at f e)
-    above f l (no e) = omega (arith, first_other f e, x.first_above f l)
-
-    low_first : (f j : ℕ) → f < 32 → m ≤ j → j < n → t j ≡ f → Dec (f ≡ g) → get_or firsts f 0 ≤ j
-    low_first f j l a b e (yes d) = omega (arith, first_at f d)
-    low_first f j l a b e (no d) = omega (arith, first_other f d, x.first_low f j l (apart (ℕ_discrete j m)) b e)
-      where
-        apart : Dec (j ≡ m) → m + 1 ≤ j
-        apart (yes k) = absurd (d (sym e ∙ ap t k ∙ here1))
-        apart (no k) = omega arith
-
-    is_first : (f : ℕ) → f < 32 → get_or firsts f 0 < n → Dec (f ≡ g) → t (get_or firsts f 0) ≡ f
-    is_first f l b (yes d) = ap t (first_at f d) ∙ here1 ∙ sym d
-    is_first f l b (no d) = ap t (first_other f d) ∙ x.first_is f l (omega (arith, first_other f d))
-
-    above_next : (i : ℕ) → m ≤ i → i < n → t i < 32 → Dec (i ≡ m) → i < get_or nexts i 0
-    above_next i a b l (yes d) = omega (arith, next_at i d, x.first_above g low1)
-    above_next i a b l (no d) = omega (arith, next_other i d, x.next_above i (omega arith) b l)
-
-    low_next : (i j : ℕ) → m ≤ i → i < j → j < n → t i < 32 → t j ≡ t i → Dec (i ≡ m) → get_or nexts i 0 ≤ j
-    low_next i j a b c l e (yes d) = omega (arith, next_at i d, x.first_low g j low1 (omega arith) c (e ∙ ap t d ∙ here1))
-    low_next i j a b c l e (no d) = omega (arith, next_other i d, x.next_low i j (omega arith) b c l e)
-
-    is_next : (i : ℕ) → m ≤ i → i < n → t i < 32 → get_or nexts i 0 < n → Dec (i ≡ m) → t (get_or nexts i 0) ≡ t i
-    is_next i a b l c (yes d) =
-        ap t (next_at i d) ∙ x.first_is g low1 (omega (arith, next_at i d)) ∙ sym here1 ∙ ap t (sym d)
-    is_next i a b l c (no d) = ap t (next_other i d) ∙ x.next_is i (omega arith) b l (omega (arith, next_other i d))
-
-    pub index_more : IndexedFrom t n m (set F g m) (set N m (get_or F g 0))
-    unfolding firsts nexts
-    index_more = record {
-      first_above = λ f l. above f l (ℕ_discrete f g);
-      first_low = λ f j l a b e. low_first f j l a b e (ℕ_discrete f g);
-      first_is = λ f l b. is_first f l b (ℕ_discrete f g);
-      next_above = λ i a b l. above_next i a b l (ℕ_discrete i m);
-      next_low = λ i j a b c l e. low_next i j a b c l e (ℕ_discrete i m);
-      next_is = λ i a b l c. is_next i a b l c (ℕ_discrete i m);
+  module _ (F N : List (Maybe ℕ)) (x : IndexedFrom t n (m + 1) F N) where
+    -- a rule that begins with no sign
+    pub index_pass : 32 ≤ t m → IndexedFrom t n m F N
+    index_pass p = record {
+      first = λ f l. one_before f (get_or F f None) (λ e. omega (arith, e)) (x.first f l);
+      next = λ i a b l. x.next i (apart i a l (ℕ_discrete i m)) b l;
     }
+      where
+        apart : (i : ℕ) → m ≤ i → t i < 32 → Dec (i ≡ m) → m + 1 ≤ i
+        apart i a l (yes d) = absurd (omega (arith, ap t d))
+        apart i a l (no d) = omega arith
+
+    -- a rule with a sign: it is the first with it, and the one that was is next
+    pub index_more : t m < 32 → m < n → length F ≡ 32 → m < length N →
+        IndexedFrom t n m (set F (t m) (Some m)) (set N m (get_or F (t m) None))
+    index_more low here wide many = record {
+      first = λ f l. firsts f l (ℕ_discrete f (t m));
+      next = λ i a b l. nexts i a b l (ℕ_discrete i m);
+    }
+      where
+        firsts : (f : ℕ) → f < 32 → Dec (f ≡ t m) → FirstFrom t n m f (get_or (set F (t m) (Some m)) f None)
+        firsts f l (yes d) = rw (d, get_or-set_same F (t m) (Some m) None (omega arith)) (omega arith, here, refl, λ j a b e. omega arith)
+        firsts f l (no d) = rw (get_or-set_other F (t m) f (Some m) None d)
+            (one_before f (get_or F f None) (λ e. d (sym e)) (x.first f l))
+
+        nexts : (i : ℕ) → m ≤ i → i < n → t i < 32 → Dec (i ≡ m) →
+            FirstFrom t n (i + 1) (t i) (get_or (set N m (get_or F (t m) None)) i None)
+        nexts i a b l (yes d) = rw (d, get_or-set_same N m (get_or F (t m) None) None many) (x.first (t m) low)
+        nexts i a b l (no d) = rw (get_or-set_other N m i (get_or F (t m) None) None d) (x.next i (omega arith) b l)

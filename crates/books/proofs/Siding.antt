@@ -1,6 +1,9 @@
 -- Sides, one after the other: what a loop over them keeps, and why it stops.
-use Rattle.std.proofs.Common.{◌≡◌, ℕ, zero, suc, ◌+◌, ◌<◌, ◌≤◌, ◌≢◌, ◌⊎◌, List, ◌++◌, length, get_or, drop, set, None, sym, refl, ap, ◌∙◌}
+use Rattle.std.proofs.Common.{◌≡◌, ℕ, zero, suc, ◌+◌, ◌<◌, ◌≤◌, ◌≢◌, ◌⊎◌, List, [], ◌∷◌, ◌++◌, length, get_or, drop, set, None, sym, refl, ap, ◌∙◌}
 use Rattle.std.proofs.Common.{subst, inl, inr, append_assoc, append-nil, arith, length-drop, get_or-set_other, get_or-set_same}
+use Rattle.std.proofs.Common.{Bool, true, false, eqb, eqb-true}
+use Rattle.std.specs.Bool.{then_some}
+use borrow.Author.Tests.{eqb-false}
 use mathlib.Core.Option.{some}
 use Rattle.rewriting.specs.Terms.{nth, Term, Terms, none1, and1, glue, count, size, Over, AllOver, SmallLetter}
 use Rattle.rewriting.proofs.Glueing.{count_glue}
@@ -29,6 +32,15 @@ nth_last none1 t u (suc i) e = absurd (no_some e)
 nth_last (and1 v ts) t u zero e = inl (omega arith, e)
 nth_last (and1 v ts) t u (suc i) e = elim (nth_last ts t u i e)
     [ inl p ↦ inl (omega (arith, p.0), p.1) | inr p ↦ inr (omega (arith, p.0), p.1) ]
+
+-- what is written behind the first of a list, in front of others
+set_front : (xs ys : List ℕ) (i e : ℕ) → i < length xs → set (xs ++ ys) i e ≡ set xs i e ++ ys
+set_front [] ys i e h = absurd (omega arith)
+set_front (x ∷ xs) ys zero e h = refl
+set_front (x ∷ xs) ys (suc i) e h = ap (λ (zs : List ℕ). x ∷ zs) (set_front xs ys i e (omega arith))
+
+pub set_behind : (x : ℕ) (xs ys : List ℕ) (i e : ℕ) → i < length xs → set (x ∷ (xs ++ ys)) (i + 1) e ≡ x ∷ (set xs i e ++ ys)
+set_behind x xs ys i e h = let d : i + 1 ≡ suc i = omega arith in rw d (ap (λ (zs : List ℕ). x ∷ zs) (set_front xs ys i e h))
 
 module _ (ps ws : List ℕ) where
   pub sides_none : (a : ℕ) (starts : List ℕ) → a ≤ length ws → get_or starts 0 0 ≡ a → SidesAt ps ws 0 a a starts
@@ -112,7 +124,7 @@ module _ (ps ws : List ℕ) where
       let d : t ≡ k.0 = cc in
       omega (arith, at.long, k.3, ap size d)
 
-  pub more_words : (m a z : ℕ) (starts : List ℕ) → SidesAt ps ws m a z starts → (z ≡ length ws → ⊥) → SidesRead ps ws m a None
+  more_words : (m a z : ℕ) (starts : List ℕ) → SidesAt ps ws m a z starts → (z ≡ length ws → ⊥) → SidesRead ps ws m a None
   more_words m a z starts s ne us c o q w =
       let d = count_others m us (omega (arith, c)) in
       let e : others m us ≡ none1 = no_more (others m us) (omega arith) in
@@ -122,3 +134,15 @@ module _ (ps ws : List ℕ) where
       no_more : (ts : Terms) → count ts ≡ 0 → ts ≡ none1
       no_more none1 h = refl
       no_more (and1 t ts) h = absurd (omega (arith, h))
+
+  -- all of them, if the last one ends where the words do
+  pub sides_end : (n m a z : ℕ) (starts : List ℕ) → n ≡ m → SidesAt ps ws n a z starts →
+      SidesRead ps ws m a (then_some (eqb z (length ws)) starts)
+  sides_end n m a z starts d s = by_end (eqb z (length ws)) refl
+    where
+      all : SidesAt ps ws m a z starts
+      all = subst (λ (k : ℕ). SidesAt ps ws k a z starts) d s
+
+      by_end : (b : Bool) → eqb z (length ws) ≡ b → SidesRead ps ws m a (then_some b starts)
+      by_end true e = subst (λ (k : ℕ). SidesAt ps ws m a k starts) (eqb-true z (length ws) e) all
+      by_end false e = more_words m a z starts all (eqb-false z (length ws) e)

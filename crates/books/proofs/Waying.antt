@@ -1,6 +1,7 @@
 -- Words that are a term; ways in a row: what a loop over the rules keeps, and why it stops.
-use Rattle.std.proofs.Common.{◌≡◌, ℕ, ◌+◌, ◌-◌, ◌<◌, ◌≤◌, false, eqb, ◌↔◌, List, [], ◌∷◌, ◌++◌, length, get_or, drop, Some, None, sym, refl}
+use Rattle.std.proofs.Common.{◌≡◌, ℕ, ◌+◌, ◌-◌, ◌<◌, ◌≤◌, Bool, eqb, Option as Maybe, ◌↔◌, List, [], ◌∷◌, ◌++◌, length, get_or, drop, Some, None, sym, refl}
 use Rattle.std.proofs.Common.{ap, ◌∙◌, ap₂, append-nil, add-one, arith, length-drop, drop-cons, eqb-true}
+use Rattle.std.specs.Option.{option_eq}
 use borrow.Author.Tests.{eqb-false, clash}
 use lib.Seq.{drop-length}
 use Rattle.rewriting.specs.Answers.{Tells}
@@ -20,8 +21,9 @@ module _ (ps ws : List ℕ) where
       (simp append-nil (sym at.written ∙ sym w.written))).1 in
       omega (arith, ap length q, length-drop z ws, at.within)
 
-  pub whole_term : (z : ℕ) → TermEnd Small ps ws 0 (Some z) → Tells (eqb z (length ws)) ((t : Term) × Of ps ws t)
-  whole_term z p = record {
+  pub whole_words : (o : Maybe ℕ) (b : Bool) → TermEnd Small ps ws 0 o → b ≡ option_eq eqb o (Some (length ws)) →
+      Tells b ((t : Term) × Of ps ws t)
+  whole_words (Some z) b p q = rw q (record {
     holds = λ e. (
       p.0,
       record {
@@ -31,10 +33,11 @@ module _ (ps ws : List ℕ) where
       },
     );
     fails = λ e q. eqb-false z (length ws) e (at_end z p.0 q.0 p.1 p.2 q.1);
-  }
-
-  pub no_whole : TermEnd Small ps ws 0 None → Tells false ((t : Term) × Of ps ws t)
-  no_whole h = record { holds = λ e. absurd (clash e); fails = λ e p. h p.0 [] p.1.fits (append-nil (row p.0) ∙ p.1.written) }
+  })
+  whole_words None b h q = rw q (record {
+    holds = λ e. absurd (clash e);
+    fails = λ e p. h p.0 [] p.1.fits (append-nil (row p.0) ∙ p.1.written);
+  })
 
 length_listed : (ts : Terms) → length (listed ts) ≡ count ts
 length_listed ts = sym (count_terms (listed ts)) ∙ ap count (terms_listed ts)
@@ -111,3 +114,9 @@ module _ (ps h : List ℕ) (a : ℕ) where
 
   pub ways_all : a ≡ length h → SomeWays ps 0 (drop a h)
   ways_all e = ([], record { written = sym (ap (λ (k : ℕ). drop k h) e ∙ drop-length h); each = refl; fit = tt })
+
+-- no end where there are no ways
+pub none_read : (ps : List ℕ) (n : ℕ) (h : List ℕ) (o : Maybe ℕ) → o ≡ None → (SomeWays ps n h → ⊥) →
+    (o ≡ Some (length h)) ↔ SomeWays ps n h
+none_read ps n h (Some z) e f = let z : ◌≡◌ {A = ℕ} 0 1 = cc in absurd (omega arith)
+none_read ps n h None e f = (λ q. let z : ◌≡◌ {A = ℕ} 0 1 = cc in absurd (omega arith), λ p. absurd (f p))

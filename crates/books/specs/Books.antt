@@ -1,5 +1,5 @@
 -- A book by its words: its equations and rules, and where their sides stand.
-use Rattle.std.specs.Prelude.{ℕ, slice_index_or}
+use Rattle.std.specs.Prelude.{◌≡◌, ℕ, List, Some, None, Option as Maybe, slice_index_or}
 use Rattle.rewriting.specs.Terms.{letter}
 use Rattle.rewriting.specs.Rules.{Eq}
 use Rattle.rewriting.specs.Books.{Book as Told}
@@ -16,6 +16,15 @@ told k = book_of k.words.now
 pub record SoundBook (k : Book) : Type 0 where
   pub reads : Reads k.words.now (told k)
   pub laid : Laid k.words.now (told k) k.layout
+
+-- and each is so, by what the type keeps
+pub sound_book_in : (k : Book) → SoundBook k
+sound_book_in k = record { reads = k.reads; laid = k.laid }
+
+-- the book of just these words; or they are none
+abbrev pub RowRead : List ℕ → Maybe Book → Type 0
+RowRead s (Some k) = k.words.now ≡ s
+RowRead s None = (b : Told) → Reads s b → ⊥
 
 -- rule i and equation i; for numbers of none, some other
 abbrev pub blank : Eq

@@ -1,19 +1,20 @@
 -- The rules of a book by their top signs.
-use Rattle.std.specs.Prelude.{◌≡◌, ℕ, ◌+◌, ◌*◌, ◌<◌, ◌≤◌, List, slice_index}
+use Rattle.std.specs.Prelude.{◌≡◌, ℕ, ◌+◌, ◌*◌, ◌<◌, ◌≤◌, ◌≢◌, List, Some, None, Option as Maybe, slice_index, slice_index_or}
 use Rattle.books.specs.declared.index.Index.{Index}
 
 -- the number of the first symbol of rule i's left side
 abbrev pub top_word : List ℕ → List ℕ → ℕ → ℕ → ℕ
 top_word ws starts e i = slice_index ws (slice_index starts (2 * (e + i)) + 1)
 
--- the rules from a number on, of n, by their top signs t: the first with a sign, and the next with the sign of one
-pub record IndexedFrom (t : ℕ → ℕ) (n m : ℕ) (firsts nexts : List ℕ) : Type 0 where
-  pub first_above : (f : ℕ) → f < 32 → m ≤ slice_index firsts f
-  pub first_low : (f j : ℕ) → f < 32 → m ≤ j → j < n → t j ≡ f → slice_index firsts f ≤ j
-  pub first_is : (f : ℕ) → f < 32 → slice_index firsts f < n → t (slice_index firsts f) ≡ f
-  pub next_above : (i : ℕ) → m ≤ i → i < n → t i < 32 → i < slice_index nexts i
-  pub next_low : (i j : ℕ) → m ≤ i → i < j → j < n → t i < 32 → t j ≡ t i → slice_index nexts i ≤ j
-  pub next_is : (i : ℕ) → m ≤ i → i < n → t i < 32 → slice_index nexts i < n → t (slice_index nexts i) ≡ t i
+-- the first number from a on, of those below n, at which t is f; or there is none
+abbrev pub FirstFrom : (ℕ → ℕ) → ℕ → ℕ → ℕ → Maybe ℕ → Type 0
+FirstFrom t n a f (Some i) = (a ≤ i) × (i < n) × (t i ≡ f) × ((j : ℕ) → a ≤ j → j < i → t j ≢ f)
+FirstFrom t n a f None = (j : ℕ) → a ≤ j → j < n → t j ≢ f
+
+-- the rules from number m on, of n, by their top signs t: the first with a sign, and the next with the sign of one
+pub record IndexedFrom (t : ℕ → ℕ) (n m : ℕ) (firsts nexts : List (Maybe ℕ)) : Type 0 where
+  pub first : (f : ℕ) → f < 32 → FirstFrom t n m f (slice_index_or firsts f None)
+  pub next : (i : ℕ) → m ≤ i → i < n → t i < 32 → FirstFrom t n (i + 1) (t i) (slice_index_or nexts i None)
 
 -- all of them
 abbrev pub Indexed : (ℕ → ℕ) → ℕ → Index → Type 0

@@ -3,5 +3,6 @@ pub mod Rows
 pub mod Reading
 pub mod Indexing
 pub mod Layouts
+pub mod Facts
 pub mod Books
 pub mod Theorems

@@ -1,11 +1,7 @@
 // Reading a book's row.
 ghost use Rattle.std.specs.Prelude.{◌≡◌, ℕ, ◌+◌, ◌*◌, ◌<◌, ◌≤◌, length, slice_index};
 ghost use Rattle.rewriting.specs.Answers.{Tells};
-ghost use Rattle.books.specs.Layouts.{FewParts};
-ghost use Rattle.books.specs.Layouts.{AllDiffer};
-ghost use Rattle.books.specs.Layouts.{HeadRead};
-ghost use Rattle.books.specs.Layouts.{SidesRead};
-ghost use Rattle.books.specs.Layouts.{BookRead};
+ghost use Rattle.books.specs.Layouts.{FewParts, AllDiffer, HeadRead, SidesRead, BookRead};
 
 use crate::layout::Layout;
 use crate::words::{Letters, term_end};
@@ -21,32 +17,14 @@ struct Head {
 fn few_parts(parts: &[u32]) -> bool
     ensures { Tells result (FewParts parts.now) }
 {
-    for n in parts {
-        if *n > 4 {
-            return false;
-        }
-    }
-    true
-}
-
-// Whether element j stands before it too.
-fn repeats(xs: &[u32], j: usize) -> bool
-    requires { j < length xs.now }
-    ensures { Tells result ((i : ℕ) × (i < j) × (slice_index xs.now i ≡ slice_index xs.now j)) }
-{
-    for i in 0..j {
-        if xs[i] == xs[j] {
-            return true;
-        }
-    }
-    false
+    parts.iter().all(|&n| n <= 4)
 }
 
 fn all_differ(xs: &[u32]) -> bool
     ensures { Tells result (AllDiffer xs.now) }
 {
-    for j in 0..xs.len() {
-        if repeats(xs, j) {
+    for (j, x) in xs.iter().enumerate() {
+        if xs[..j].contains(x) {
             return false;
         }
     }
@@ -56,10 +34,7 @@ fn all_differ(xs: &[u32]) -> bool
 fn read_head(words: &[u32]) -> Option<Head>
     ensures { HeadRead words.now result }
 {
-    if words.is_empty() {
-        return None;
-    }
-    let signs = words[0] as usize;
+    let signs = *words.first()? as usize;
     if signs == 0 || signs > 32 || words.len() < 3 + 2 * signs {
         return None;
     }
@@ -86,36 +61,26 @@ fn read_sides(parts: &[u32], words: &[u32], from: usize, count: usize) -> Option
     let mut starts = [0; 257];
     starts[0] = from;
     let mut at = from;
-    for i in 0..count {
-        let Some(end) = term_end(Letters::Small, parts, words, at) else {
-            return None;
-        };
+    for start in starts[1..=count].iter_mut() {
+        let end = term_end(Letters::Small, parts, words, at)?;
         // 32 symbols of two words
         if end > at + 64 {
             return None;
         }
-        starts[i + 1] = end;
+        *start = end;
         at = end;
     }
-    if at == words.len() {
-        Some(starts)
-    } else {
-        None
-    }
+    (at == words.len()).then_some(starts)
 }
 
 // The book that the words are, by where its sides stand; or none.
 pub fn read_book(words: &[u32]) -> Option<Layout>
     ensures { BookRead words.now result }
 {
-    let Some(head) = read_head(words) else {
-        return None;
-    };
+    let head = read_head(words)?;
     let parts = &words[1..1 + head.signs];
     let sides = 2 * head.equations + 2 * head.rules;
-    let Some(starts) = read_sides(parts, words, 3 + 2 * head.signs, sides) else {
-        return None;
-    };
+    let starts = read_sides(parts, words, 3 + 2 * head.signs, sides)?;
     Some(Layout {
         signs: head.signs,
         equations: head.equations,

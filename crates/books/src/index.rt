@@ -1,28 +1,27 @@
 // The rules of a book by their top signs.
-ghost use Rattle.std.specs.Prelude.{◌≡◌, ℕ, ◌+◌, ◌*◌, ◌<◌, ◌≤◌, length, slice_index};
-ghost use Rattle.books.specs.Indexing.{Indexed};
-ghost use Rattle.books.specs.Indexing.{top_word};
+ghost use Rattle.std.specs.Prelude.{◌≡◌, ℕ, ◌+◌, ◌*◌, ◌<◌, ◌≤◌, None, length, slice_index, slice_index_or};
+ghost use Rattle.books.specs.Indexing.{Indexed, top_word};
 
-// For each sign the first rule with that top sign, and for each rule the next one with the same; the number of rules where there is none.
+// For each sign the first rule with that top sign, and for each rule the next one with the same.
 #[derive(Clone, Copy)]
 pub struct Index {
-    pub(crate) first: [usize; 32],
-    pub(crate) next: [usize; 64],
+    pub(crate) first: [Option<usize>; 32],
+    pub(crate) next: [Option<usize>; 64],
 }
 
 impl Index {
-    // The first rule whose top sign is f, or the number of rules.
-    pub fn first_with(&self, f: u32) -> usize
+    // The first rule whose top sign is f.
+    pub fn first_with(&self, f: u32) -> Option<usize>
         requires { f < 32 }
-        ensures { result ≡ slice_index self.now.first f }
+        ensures { result ≡ slice_index_or self.now.first f None }
     {
         self.first[f as usize]
     }
 
-    // The next rule after rule i with the same top sign, or the number of rules.
-    pub fn next_like(&self, i: usize) -> usize
+    // The next rule after rule i with the same top sign.
+    pub fn next_like(&self, i: usize) -> Option<usize>
         requires { i < 64 }
-        ensures { result ≡ slice_index self.now.next i }
+        ensures { result ≡ slice_index_or self.now.next i None }
     {
         self.next[i]
     }
@@ -34,13 +33,13 @@ pub fn index_rules(words: &[u32], starts: &[usize; 257], equations: usize, rules
     requires by_index { (i : ℕ) → i < rules → slice_index starts.now (2 * (equations + i)) + 2 ≤ length words.now }
     ensures { Indexed (λ i. top_word words.now starts.now equations i) rules result }
 {
-    let mut first = [rules; 32];
-    let mut next = [rules; 64];
+    let mut first = [None; 32];
+    let mut next = [None; 64];
     for i in (0..rules).rev() {
         let f = words[starts[2 * (equations + i)] + 1] as usize;
         if f < 32 {
             next[i] = first[f];
-            first[f] = i;
+            first[f] = Some(i);
         }
     }
     Index { first, next }

@@ -7,6 +7,7 @@ pub struct Layout {
     pub(crate) signs: usize,
     pub(crate) equations: usize,
     pub(crate) rules: usize,
+    // Stays an array: the two counts above say how much of it is used, and where the rules begin; a length of its own would say so again.
     pub(crate) starts: [usize; 257],
 }
 
@@ -33,10 +34,6 @@ impl Layout {
     pub fn start(&self, i: usize) -> usize
         ensures { result ≡ slice_index self.now.starts i }
     {
-        if i < self.starts.len() {
-            self.starts[i]
-        } else {
-            0
-        }
+        self.starts.get(i).copied().unwrap_or(0)
     }
 }

@@ -1,8 +1,7 @@
 // Reading rows of words as books, terms and ways.
 #![tactic(auto)]
 
-ghost use Rattle.books.specs.Theorems.{OneReading};
-ghost use Rattle.books.specs.Theorems.{SumRow};
+ghost use Rattle.books.specs.Theorems.{OneReading, SumRow};
 
 mod book;
 pub mod index;

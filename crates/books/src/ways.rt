@@ -1,8 +1,8 @@
 // Reading rows of single terms and of ways.
+ghost use Rattle.std.specs.Prelude.{◌≡◌, ◌↔◌, Some, length};
 ghost use Rattle.rewriting.specs.Answers.{Tells};
 ghost use Rattle.rewriting.specs.Terms.{Term};
-ghost use Rattle.books.specs.Rows.{Of};
-ghost use Rattle.books.specs.Rows.{SomeWays};
+ghost use Rattle.books.specs.Rows.{Of, SomeWays};
 
 use crate::words::{Letters, term_end, terms_end};
 
@@ -10,25 +10,24 @@ use crate::words::{Letters, term_end, terms_end};
 pub fn is_term(parts: &[u32], words: &[u32]) -> bool
     ensures { Tells result ((t : Term) × Of parts.now words.now t) }
 {
-    match term_end(Letters::Small, parts, words, 0) {
-        Some(end) => end == words.len(),
-        None => false,
+    term_end(Letters::Small, parts, words, 0) == Some(words.len())
+}
+
+// Where as many ways end as there are rules, of terms of the signature with any letters.
+fn ways_end(parts: &[u32], rules: usize, words: &[u32]) -> Option<usize>
+    ensures { (result ≡ Some (length words.now)) ↔ SomeWays parts.now rules words.now }
+{
+    let mut at = 0;
+    for _ in 0..rules {
+        let count = *words.get(at)? as usize;
+        at = terms_end(Letters::Any, parts, words, at + 1, count)?;
     }
+    Some(at)
 }
 
 // Whether the words are as many ways of terms of the signature, with any letters, as there are rules.
 pub fn are_ways(parts: &[u32], rules: usize, words: &[u32]) -> bool
     ensures { Tells result (SomeWays parts.now rules words.now) }
 {
-    let mut at = 0;
-    for _ in 0..rules {
-        if at >= words.len() {
-            return false;
-        }
-        let Some(end) = terms_end(Letters::Any, parts, words, at + 1, words[at] as usize) else {
-            return false;
-        };
-        at = end;
-    }
-    at == words.len()
+    ways_end(parts, rules, words) == Some(words.len())
 }

@@ -1,19 +1,16 @@
 // Symbols, each two words of a row, and where terms end.
 ghost use Rattle.std.specs.Prelude.{◌≡◌, ◌^◌, ◌<◌, IfSome};
-ghost use Rattle.books.specs.Reading.{allowed, Asks};
-ghost use Rattle.books.specs.Reading.{SymbolAt};
-ghost use Rattle.books.specs.Reading.{TermsEnd};
-ghost use Rattle.books.specs.Reading.{TermEnd};
+ghost use Rattle.books.specs.Reading.{allowed, Asks, SymbolAt, TermsEnd, TermEnd};
 
 // Which letters a term may have: those below 16, or any.
-#[derive(Clone, Copy)]
+#[derive(Clone, Copy, PartialEq, Eq, Debug)]
 pub enum Letters {
     Small,
     Any,
 }
 
 // A letter or a sign, by its number.
-#[derive(Clone, Copy)]
+#[derive(Clone, Copy, PartialEq, Eq, Debug)]
 pub enum Symbol {
     Letter(u32),
     Sign(u32),
@@ -37,15 +34,8 @@ impl Symbol {
         ensures small { IfSome result (λ n. n < 2 ^ 32) }
     {
         match self {
-            Symbol::Letter(x) => { if letters.allow(x) { Some(0) } else { None } }
-            Symbol::Sign(f) => {
-                let f = f as usize;
-                if f < parts.len() {
-                    Some(parts[f] as usize)
-                } else {
-                    None
-                }
-            }
+            Symbol::Letter(x) => letters.allow(x).then_some(0),
+            Symbol::Sign(f) => Some(*parts.get(f as usize)? as usize),
         }
     }
 }
@@ -54,12 +44,9 @@ impl Symbol {
 pub fn symbol_at(words: &[u32], at: usize) -> Option<Symbol>
     ensures { SymbolAt words.now at result }
 {
-    if words.len() < 2 || words.len() - 2 < at {
-        return None;
-    }
-    match words[at] {
-        0 => Some(Symbol::Letter(words[at + 1])),
-        1 => Some(Symbol::Sign(words[at + 1])),
+    match words.get(at..)? {
+        [0, x, ..] => Some(Symbol::Letter(*x)),
+        [1, f, ..] => Some(Symbol::Sign(*f)),
         _ => None,
     }
 }
@@ -77,6 +64,7 @@ pub fn terms_end(
     if at > words.len() {
         return None;
     }
+    // Stays a while: it ends with the last pending term and not with the words, and its answer is the place itself.
     let mut pending = count;
     let mut i = at;
     while pending > 0 {
@@ -84,13 +72,8 @@ pub fn terms_end(
         if pending > (words.len() - i) / 2 {
             return None;
         }
-        let Some(symbol) = symbol_at(words, i) else {
-            return None;
-        };
-        let Some(n) = symbol.asks(letters, parts) else {
-            return None;
-        };
-        pending = pending - 1 + n;
+        let symbol = symbol_at(words, i)?;
+        pending = pending - 1 + symbol.asks(letters, parts)?;
         i += 2;
     }
     Some(i)

@@ -4,7 +4,8 @@ use Rattle.rewriting.specs.Rules.{Eq, Steps, stay, Done}
 use Rattle.rewriting.specs.Machine.{Still}
 use Rattle.store.specs.declared.types.Store.{Store}
 use Rattle.store.specs.declared.types.Place.{Place}
-use Rattle.store.specs.Stores.{Sound, term_in, flag_in, FlagSet}
+use Rattle.store.proofs.Sounds.{sound_in}
+use Rattle.store.specs.Stores.{term_in, flag_in, FlagSet}
 use Rattle.engine.specs.declared.types.Focus.TheVariants.{Eval, Back}
 use Rattle.engine.specs.Rewriting.{Rewritten}
 use Rattle.engine.specs.Running.{Honest, Holding}
@@ -12,12 +13,12 @@ use Rattle.engine.specs.Turning.{Advanced, Applied}
 use Rattle.engine.proofs.Honesty.{holding_grown, holding_flag, holding_on}
 
 module _ (rs : List Eq) (st : Store) (p : Place) where
-  pub holding_same : Sound st → Honest rs st → Holding rs st st
-  holding_same s h = record { sound = s; honest = h; room = refl; longer = omega arith; terms = λ i l. refl }
+  pub holding_same : Honest rs st → Holding rs st st
+  holding_same h = record { sound = sound_in st; honest = h; room = refl; longer = omega arith; terms = λ i l. refl }
 
-  pub by_flag : Sound st → Honest rs st → p.0 < st.count → flag_in st p.0 ≡ true → Advanced rs st p st (Some (Back p))
-  by_flag s h l e = record {
-    holding = holding_same s h;
+  pub by_flag : Honest rs st → p.0 < st.count → flag_in st p.0 ≡ true → Advanced rs st p st (Some (Back p))
+  by_flag h l e = record {
+    holding = holding_same h;
     result = record { inside = l; steps = stay; done = h.flags p.0 l e };
   }
 

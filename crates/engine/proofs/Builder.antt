@@ -1,6 +1,6 @@
 -- Building symbol by symbol, from the last to the first: what each turn needs and keeps.
-use Rattle.std.proofs.Common.{◌≡◌, ℕ, zero, suc, ◌+◌, ◌-◌, ◌*◌, ◌<◌, ◌≤◌, ◌⊎◌, List, length, get_or, drop, Some, sym, refl, ap, ◌∙◌}
-use Rattle.std.proofs.Common.{subst, ap₂, subst₂, inl, inr, ⊎_elim, append-nil, arith, get_or-drop}
+use Rattle.std.proofs.Common.{◌≡◌, ℕ, zero, suc, ◌+◌, ◌-◌, ◌*◌, ◌<◌, ◌≤◌, ◌⊎◌, List, length, get_or, drop, Option, Some, sym, ap, ◌∙◌}
+use Rattle.std.proofs.Common.{subst, ap₂, inl, inr, ⊎_elim, append-nil, arith, get_or-drop}
 use mathlib.Core.Option.{some}
 use Rattle.rewriting.specs.Terms.{nth, Term, letter, sign, Terms, none1, and1, glue, count, size, sizes}
 use Rattle.rewriting.specs.Terms.{put, puts, In, is, Ins, part, here, there, AllOver, AnyLetter}
@@ -10,11 +10,15 @@ use Rattle.books.specs.Rows.{row, rows}
 use Rattle.books.specs.Layouts.{FewParts}
 use Rattle.books.proofs.Elements.{nth_below, nth_is}
 use Rattle.books.proofs.Forests.{behind}
+use Rattle.books.specs.Reading.{tag, number, SymbolAt}
+use Rattle.books.specs.declared.words.Symbol.{Symbol}
+use Rattle.books.specs.declared.words.Symbol.TheVariants.{Letter, Sign}
 use Rattle.store.specs.declared.types.Store.{Store}
 use Rattle.store.specs.declared.types.Place.{Place}
-use Rattle.store.specs.Stores.{Sound, Grown, term_in}
+use Rattle.store.specs.Stores.{Grown, term_in}
 use Rattle.store.specs.Making.{SignShared}
 use Rattle.store.specs.Transfers.{RowOf}
+use Rattle.store.proofs.Sounds.{sound_in}
 use Rattle.store.proofs.Cases.{le_or_lt}
 use Rattle.store.proofs.Placing.{grown_same, grown_then}
 use Rattle.store.proofs.Forests.{after, after_rows, after_over, after_sizes, none_left}
@@ -30,33 +34,33 @@ no_letter : {f x : ℕ} {ts : Terms} → sign f ts ≡ letter x → ⊥
 no_letter e = let z : ◌≡◌ {A = ℕ} 0 1 = cc in omega arith
 
 -- the symbol's term is built
-module _ (ps : List ℕ) (tag num : ℕ) (b : Bindings) (st : Store) (q : Built) (can : Buildable ps tag num b st q) where
-  pub letter_built : (p : Place) (r : Built) → Sound st → tag ≡ 0 → bound b num ≡ Some p → PutOn q p r →
-      q.len < length q.places → SymbolBuilt ps tag num b st q st r
-  letter_built p r s z e o l = record {
-    sound = s;
-    grown = grown_same st;
-    few = omega arith;
-    signs = λ i x l m. absurd (omega arith);
-    inside = on_inside st q p r o l can.inside (can.bound_inside num p e);
-    letter = λ _. on_top st q p r o l
-        ∙ ap (λ (t : Term). and1 t (stacked st q.places q.len)) (sym (put_in_bound st b num p e));
-    sign = λ n. absurd (n z);
-  }
+module _ (ps : List ℕ) (num : ℕ) (b : Bindings) (st : Store) (q : Built) where
+  pub letter_built : Buildable ps (Letter num) b st q → (p : Place) (r : Built) → bound b num ≡ Some p → PutOn q p r →
+      SymbolBuilt ps (Letter num) b st q st r
+  letter_built can p r e o =
+      let l : q.len < length q.places = omega (arith, o.all, can.symbol.0) in record {
+        sound = sound_in st;
+        grown = grown_same st;
+        few = omega arith;
+        signs = λ i x l m. absurd (omega arith);
+        inside = on_inside st q p r o l can.inside (can.bound_inside num p e);
+        made = on_top st q p r o l
+            ∙ ap (λ (t : Term). and1 t (stacked st q.places q.len)) (sym (put_in_bound st b num p e));
+      }
 
-  pub sign_built : (xs : List Place) (r : Built) (su : Store) (p : Place) (u : Built) → (tag ≡ 0 → ⊥) →
+  pub sign_built : Buildable ps (Sign num) b st q → (xs : List Place) (r : Built) (su : Store) (p : Place) (u : Built) →
       Taken q (get_or ps num 0) xs r → SignShared st num xs (get_or ps num 0) su p →
-      ((i : ℕ) → st.count ≤ i → i < su.count → i ≡ p.0) → PutOn r p u → r.len < length r.places → SymbolBuilt ps tag num b st q su u
-  sign_built xs r su p u n t s new o l = record {
-    sound = s.sound;
-    grown = s.grown;
-    few = s.few;
-    signs = λ i x l m e. let z : i ≡ p.0 = new i l m in no_letter (sym (ap (λ (n : ℕ). term_in su n) z ∙ s.term) ∙ e);
-    inside = on_inside su r p u o l
-        (inside_grown st su r.places r.len s.grown (taken_inside st q (get_or ps num 0) xs r t can.inside)) s.inside;
-    letter = λ z. absurd (n z);
-    sign = λ _ vs us c e. sign_on_top st q num (get_or ps num 0) xs r su p u vs us t s o l can.inside c e;
-  }
+      ((i : ℕ) → st.count ≤ i → i < su.count → i ≡ p.0) → PutOn r p u → SymbolBuilt ps (Sign num) b st q su u
+  sign_built can xs r su p u t s new o =
+      let l : r.len < length r.places = omega (arith, o.all, t.len, can.symbol.space) in record {
+        sound = s.sound;
+        grown = s.grown;
+        few = s.few;
+        signs = λ i x l m e. let z : i ≡ p.0 = new i l m in no_letter (sym (ap (λ (n : ℕ). term_in su n) z ∙ s.term) ∙ e);
+        inside = on_inside su r p u o l
+            (inside_grown st su r.places r.len s.grown (taken_inside st q (get_or ps num 0) xs r t can.inside)) s.inside;
+        made = λ vs us c e. sign_on_top st q num (get_or ps num 0) xs r su p u vs us t s o l can.inside c e;
+      }
 
 pub signs_then : (a b d : Store) → SignsAdded a b → Grown b d → SignsAdded b d → SignsAdded a d
 signs_then a b d f g h i x l m e =
@@ -94,9 +98,9 @@ word_at ps ws t k i w =
     ∙ get_or-drop (2 * k) ws i 0
 
 -- the symbol can be built, and then the terms from there on are
-pub record Turn (a0 : Store) (ps : List ℕ) (tag num : ℕ) (b : Bindings) (st : Store) (q : Built) (fs : Terms) : Type 0 where
-  pub can : Buildable ps tag num b st q
-  pub next : (su : Store) (r : Built) → SymbolBuilt ps tag num b st q su r → stacked su r.places r.len ≡ puts (put_in a0 b) fs
+pub record Turn (a0 : Store) (ps : List ℕ) (y : Symbol) (b : Bindings) (st : Store) (q : Built) (fs : Terms) : Type 0 where
+  pub can : Buildable ps y b st q
+  pub next : (su : Store) (r : Built) → SymbolBuilt ps y b st q su r → stacked su r.places r.len ≡ puts (put_in a0 b) fs
 
 module _ (ps : List ℕ) (few : FewParts ps) (a0 : Store) (b : Bindings) (inside0 : AllInside a0 b) (st : Store)
     (q : Built) (grown : Grown a0 st) (inside : PlacesInside st q.places q.len) (short : q.len < 32) where
@@ -104,20 +108,19 @@ module _ (ps : List ℕ) (few : FewParts ps) (a0 : Store) (b : Bindings) (inside
   still_inside x p e = let l = inside0 x p e in let m = grown.longer in omega arith
 
   letter_turn : (x : ℕ) (us : Terms) → x < 32 → Bound b x → stacked st q.places q.len ≡ puts (put_in a0 b) us →
-      Turn a0 ps 0 x b st q (and1 (letter x) us)
+      Turn a0 ps (Letter x) b st q (and1 (letter x) us)
   letter_turn x us low (p, e) i = record {
     can = record {
       short = omega arith;
       inside = inside;
       bound_inside = still_inside;
-      letter = λ _. (short, low, (p, e));
-      sign = λ n. absurd (n refl);
+      symbol = (short, low, (p, e));
     };
-    next = λ su r s. s.letter refl ∙ ap₂ and1 (put_in_grown a0 st b x p grown inside0 e) i;
+    next = λ su r s. s.made ∙ ap₂ and1 (put_in_grown a0 st b x p grown inside0 e) i;
   }
 
   sign_turn : (f : ℕ) (vs us : Terms) → nth ps f ≡ some (count vs) →
-      stacked st q.places q.len ≡ puts (put_in a0 b) (glue vs us) → Turn a0 ps 1 f b st q (and1 (sign f vs) us)
+      stacked st q.places q.len ≡ puts (put_in a0 b) (glue vs us) → Turn a0 ps (Sign f) b st q (and1 (sign f vs) us)
   sign_turn f vs us o i =
       let s = put_in a0 b in
       let n : get_or ps f 0 ≡ count vs = nth_is ps f (count vs) 0 o in
@@ -129,34 +132,36 @@ module _ (ps : List ℕ) (few : FewParts ps) (a0 : Store) (b : Bindings) (inside
           short = omega arith;
           inside = inside;
           bound_inside = still_inside;
-          letter = λ z. absurd (omega arith);
-          sign = λ _. record { within = low; few = few f low; enough = omega arith; space = omega arith };
+          symbol = record { within = low; few = few f low; enough = omega arith; space = omega arith };
         };
-        next = λ su r d. d.sign (λ z. omega arith) (puts s vs) (puts s us) (count_puts s vs ∙ sym n) (i ∙ puts_glue s vs us);
+        next = λ su r d. d.made (puts s vs) (puts s us) (count_puts s vs ∙ sym n) (i ∙ puts_glue s vs us);
       }
 
-  turn_by : (fs : Terms) (tag num : ℕ) → 0 < sizes fs → AllOver AnyLetter ps fs → ((x : ℕ) → Ins x fs → (x < 32) × Bound b x) →
-      get_or (rows fs) 0 0 ≡ tag → get_or (rows fs) 1 0 ≡ num → stacked st q.places q.len ≡ puts (put_in a0 b) (behind fs) →
-      Turn a0 ps tag num b st q fs
-  turn_by none1 tag num z o k d e i = absurd (omega arith)
-  turn_by (and1 (letter x) us) tag num z o k d e i =
+  zero_one : ◌≡◌ {A = ℕ} 0 1 → ⊥
+  zero_one e = omega arith
+
+  turn_by : (fs : Terms) (y : Symbol) → 0 < sizes fs → AllOver AnyLetter ps fs → ((x : ℕ) → Ins x fs → (x < 32) × Bound b x) →
+      get_or (rows fs) 0 0 ≡ tag y → get_or (rows fs) 1 0 ≡ number y → stacked st q.places q.len ≡ puts (put_in a0 b) (behind fs) →
+      Turn a0 ps y b st q fs
+  turn_by none1 y z o k d e i = absurd (omega arith)
+  turn_by (and1 (letter x) us) (Letter n) z o k d e i =
       let (low, bd) = k x (here is) in
-      subst₂ (λ (w v : ℕ). Turn a0 ps w v b st q (and1 (letter x) us)) d e (letter_turn x us low bd i)
-  turn_by (and1 (sign f vs) us) tag num z o k d e i =
-      subst₂ (λ (w v : ℕ). Turn a0 ps w v b st q (and1 (sign f vs) us)) d e (sign_turn f vs us o.0.0 i)
+      subst (λ (v : ℕ). Turn a0 ps (Letter v) b st q (and1 (letter x) us)) e (letter_turn x us low bd i)
+  turn_by (and1 (letter x) us) (Sign n) z o k d e i = absurd (zero_one d)
+  turn_by (and1 (sign f vs) us) (Letter n) z o k d e i = absurd (zero_one (sym d))
+  turn_by (and1 (sign f vs) us) (Sign n) z o k d e i =
+      subst (λ (v : ℕ). Turn a0 ps (Sign v) b st q (and1 (sign f vs) us)) e (sign_turn f vs us o.0.0 i)
 
 -- from symbol k on the instance of t is built
 pub record SoBuilt (t : Term) (a : Store) (b : Bindings) (k : ℕ) (st : Store) (q : Built) : Type 0 where
-  pub sound : Sound st
   pub grown : Grown a st
   pub few : st.count + k ≤ a.count + size t
   pub signs : SignsAdded a st
   pub inside : PlacesInside st q.places q.len
   pub terms : stacked st q.places q.len ≡ puts (put_in a b) (after k (and1 t none1))
 
-pub none_built : (t : Term) (a : Store) (b : Bindings) (k : ℕ) (q : Built) → Sound a → k ≡ size t → q.len ≡ 0 → SoBuilt t a b k a q
-none_built t a b k q s e z = record {
-  sound = s;
+pub none_built : (t : Term) (a : Store) (b : Bindings) (k : ℕ) (q : Built) → k ≡ size t → q.len ≡ 0 → SoBuilt t a b k a q
+none_built t a b k q e z = record {
   grown = grown_same a;
   few = omega arith;
   signs = λ i x l m. absurd (omega arith);
@@ -170,35 +175,36 @@ module _ (ps ws : List ℕ) (few : FewParts ps) (t : Term) (a : Store) (b : Bind
   pub symbols_built : length ws ≡ 2 * size t
   symbols_built = symbols f.row
 
-  turn_at : (k : ℕ) (st : Store) (q : Built) → k < size t → SoBuilt t a b (suc k) st q →
-      Turn a ps (get_or ws (2 * k) 0) (get_or ws (2 * k + 1) 0) b st q (after k (and1 t none1))
-  turn_at k st q l s =
+  turn_at : (k : ℕ) (y : Symbol) (st : Store) (q : Built) → k < size t → SymbolAt ws (2 * k) (Some y) → SoBuilt t a b (suc k) st q →
+      Turn a ps y b st q (after k (and1 t none1))
+  turn_at k y st q l at s =
       let fs = after k (and1 t none1) in
       let c : q.len ≡ count (behind fs) =
       sym (stacked_count st q.places q.len) ∙ ap count s.terms ∙ count_puts (put_in a b) (behind fs) in
       let z : 2 * k + 0 ≡ 2 * k = omega arith in
       turn_by ps few a b inside st q s.grown s.inside
       (omega (arith, count_sizes (behind fs), after_sizes (suc k) (and1 t none1) (omega arith), f.small))
-      fs _ _ (omega (arith, after_sizes k (and1 t none1) (omega arith))) (after_over AnyLetter ps k (and1 t none1) (f.row.fits, tt))
+      fs y (omega (arith, after_sizes k (and1 t none1) (omega arith))) (after_over AnyLetter ps k (and1 t none1) (f.row.fits, tt))
       (λ x i. let j = only_in (after_ins k (and1 t none1) i) in (f.low x j, f.bound x j))
-      (word_at ps ws t k 0 f.row ∙ ap (λ (n : ℕ). get_or ws n 0) z) (word_at ps ws t k 1 f.row) s.terms
+      (word_at ps ws t k 0 f.row ∙ ap (λ (n : ℕ). get_or ws n 0) z ∙ at.1) (word_at ps ws t k 1 f.row ∙ at.2) s.terms
 
   -- symbol n - 1 is next
-  pub turn : (n : ℕ) (st : Store) (q : Built) → 0 < n → n ≤ size t → SoBuilt t a b n st q →
-      Turn a ps (get_or ws (2 * (n - 1)) 0) (get_or ws (2 * (n - 1) + 1) 0) b st q (after (n - 1) (and1 t none1))
-  turn n st q p l s =
+  pub turn : (n : ℕ) (st : Store) (q : Built) → 0 < n → n ≤ size t → SoBuilt t a b n st q → (x : Option Symbol) (y : Symbol) →
+      x ≡ Some y → SymbolAt ws (2 * (n - 1)) x → Turn a ps y b st q (after (n - 1) (and1 t none1))
+  turn n st q p l s x y same at =
       let e : n ≡ suc (n - 1) = omega arith in
-      turn_at (n - 1) st q (omega arith) (subst (λ (k : ℕ). SoBuilt t a b k st q) e s)
+      turn_at (n - 1) y st q (omega arith) (subst (SymbolAt ws (2 * (n - 1))) same at)
+      (subst (λ (k : ℕ). SoBuilt t a b k st q) e s)
 
-  pub built_more : (n : ℕ) (st : Store) (q : Built) → 0 < n → n ≤ size t → SoBuilt t a b n st q → (su : Store) (r : Built) →
-      SymbolBuilt ps (get_or ws (2 * (n - 1)) 0) (get_or ws (2 * (n - 1) + 1) 0) b st q su r → SoBuilt t a b (n - 1) su r
-  built_more n st q p l s su r d = record {
-    sound = d.sound;
+  pub built_more : (n : ℕ) (st : Store) (q : Built) → SoBuilt t a b n st q → 0 < n → {y : Symbol} →
+      Turn a ps y b st q (after (n - 1) (and1 t none1)) → (su : Store) (r : Built) → SymbolBuilt ps y b st q su r →
+      SoBuilt t a b (n - 1) su r
+  built_more n st q s p turned su r d = record {
     grown = grown_then a st su s.grown d.grown;
     few = omega (arith, d.few, s.few);
     signs = signs_then a st su s.signs d.grown d.signs;
     inside = d.inside;
-    terms = (turn n st q p l s).next su r d;
+    terms = turned.next su r d;
   }
 
   pub built_all : (st : Store) (q : Built) → SoBuilt t a b 0 st q → RowInstanceBuilt a b t st (get_or q.places 0 zero_place)
@@ -206,7 +212,7 @@ module _ (ps ws : List ℕ) (few : FewParts ps) (t : Term) (a : Store) (b : Bind
       let c : q.len ≡ 1 = omega (arith, stacked_count st q.places q.len, ap count s.terms) in
       let e : stacked st q.places 1 ≡ and1 (put (put_in a b) t) none1 = ap (stacked st q.places) (sym c) ∙ s.terms in
       record {
-        sound = s.sound;
+        sound = sound_in st;
         grown = s.grown;
         few = omega (arith, s.few);
         signs = s.signs;

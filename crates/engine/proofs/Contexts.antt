@@ -7,10 +7,18 @@ use Rattle.rewriting.specs.Machine.{frame, behind, around, plug}
 use Rattle.rewriting.specs.Machine.{Frame as ModelFrame}
 use Rattle.rewriting.proofs.Framing.{around_steps, part_plug}
 use Rattle.rewriting.proofs.Glueing.{glue_after}
+use Rattle.store.specs.declared.types.Store.{Store}
+use Rattle.store.specs.declared.types.Roots.{Roots}
 use Rattle.store.specs.Slots.{parts_by}
 use Rattle.engine.specs.declared.types.Frame.{Frame}
+use Rattle.engine.specs.declared.types.Frames.{Frames}
+use Rattle.engine.specs.declared.work.Work.{Work}
 use Rattle.engine.specs.Frames.{frame_at}
 use Rattle.engine.specs.Running.{run, frame_of, frames_of, Framed, Asks}
+
+-- a store with its roots and frames
+abbrev pub work : Store → Roots → Frames → Work
+work st q fr = record { store = st; roots = q; frames = fr }
 
 -- terms in a row
 pub run_same : (g h : ℕ → Term) (a n : ℕ) → ((k : ℕ) → a ≤ k → k < a + n → g k ≡ h k) → run g a n ≡ run h a n

@@ -1,5 +1,6 @@
 -- A turn that goes to the first part of a sign.
-use Rattle.std.proofs.Common.{◌≡◌, ℕ, suc, ◌+◌, ◌-◌, ◌<◌, ◌≤◌, List, ◌∷◌, sym, refl, ap, ◌∙◌, subst, ap₂, inl, inr, add-one, arith}
+use Rattle.std.proofs.Common.{◌≡◌, ℕ, suc, ◌+◌, ◌-◌, ◌<◌, ◌≤◌, List, ◌∷◌, Option, Some, None, sym, refl, ap, ◌∙◌, subst, ap₂, inl, inr, add-one, arith}
+use Rattle.std.proofs.lemmas.Option.{none-some}
 use native.Mathlib.Decide.{dec_lt}
 use Rattle.rewriting.specs.Terms.{Term, sign, Terms, none1, and1}
 use Rattle.rewriting.specs.Rules.{Eq, Steps, stay}
@@ -14,25 +15,29 @@ use Rattle.store.specs.Stacks.{root_in}
 use Rattle.engine.specs.declared.types.Frame.{Frame}
 use Rattle.engine.specs.declared.types.Frames.{Frames}
 use Rattle.engine.specs.declared.types.Focus.TheVariants.{Eval}
-use Rattle.engine.specs.Frames.{frame_at, AskedBy, FramePushed}
+use Rattle.engine.specs.Frames.{frame_at, Remembered, FramePushed}
 use Rattle.engine.specs.Running.{run, frames_of, Framed, frames_in, state_in, Asks, AskedFor, Running}
 use Rattle.engine.specs.Turning.{SpaceForTurn, TurnedTo, OthersPushed}
-use Rattle.engine.proofs.Contexts.{run_shift, run_by, frames_top, framed_top, frames_same, framed_same, framed_low, frames_length, asks_map}
+use Rattle.engine.proofs.Contexts.{work, run_shift, run_by, frames_top, framed_top, frames_same, framed_same, framed_low, frames_length, asks_map}
 use Rattle.engine.proofs.Advancing.{holding_same}
 use Rattle.engine.proofs.Going.{asked_less}
 
--- a word that remembers a place
-pub asked_new : (rs : List Eq) (st : Store) (gr : Frames) (d w : ℕ) (p : Place) → (frame_at gr.words.now d).asked ≡ w → AskedBy p w →
-    p.0 < st.count → AskedFor rs st gr d (term_in st p.0)
-asked_new rs st gr d w p e (inl z) l f pos = absurd (omega (arith, e, z))
-asked_new rs st gr d w p e (inr z) l f pos =
-    let y : (frame_at gr.words.now d).asked - 1 ≡ p.0 = omega (arith, e, z) in
-    (omega (arith, e, z), subst (λ (i : ℕ). Steps rs (term_in st i) (term_in st p.0)) (sym y) stay)
+abbrev number : Option Place → ℕ
+number None = 0
+number (Some p) = p.0
+
+-- a place that is remembered, or not
+pub asked_new : (rs : List Eq) (st : Store) (gr : Frames) (d : ℕ) (w : Option Place) (p : Place) → (frame_at gr.words.now d).asked ≡ w →
+    Remembered (Some p) w → p.0 < st.count → AskedFor rs st gr d (term_in st p.0)
+asked_new rs st gr d w p e (inl z) l f o g = absurd (none-some o (sym z ∙ sym e ∙ g))
+asked_new rs st gr d w p e (inr z) l f o g =
+    let same : p.0 ≡ o.0 = ap number (sym z ∙ sym e ∙ g) in
+    (omega (arith, l, same), subst (λ (i : ℕ). Steps rs (term_in st i) (term_in st p.0)) same stay)
 
 module _ (rs : List Eq) (low : ℕ) (st : Store) (q : Roots) (fr : Frames) (p : Place) (f n : ℕ) (first : Place) (r : Roots) (gr : Frames)
-    (run1 : Running rs low st q fr (Eval p)) (few : n ≤ 3) (arity : arity_in st p.0 ≡ n + 1)
+    (run1 : Running rs low (work st q fr) (Eval p)) (few : n ≤ 3) (arity : arity_in st p.0 ≡ n + 1)
     (is : term_in st p.0 ≡ sign f (parts_in st p.0 (n + 1))) (at : first.0 ≡ part_in st p.0 0) (down : first.0 < p.0)
-    (space : SpaceForTurn st q fr) (o : OthersPushed st q p.0 n r) (k : FramePushed fr f n first gr) where
+    (space : SpaceForTurn (work st q fr)) (o : OthersPushed st q p.0 n r) (k : FramePushed fr f n first gr) where
   abbrev g : ℕ → Term
   g i = held st q i
 
@@ -40,7 +45,7 @@ module _ (rs : List Eq) (low : ℕ) (st : Store) (q : Roots) (fr : Frames) (p : 
   h i = held st r i
 
   abbrev ks : List ModelFrame
-  ks = frames_in st q fr
+  ks = frames_in (work st q fr)
 
   abbrev ts : Terms
   ts = parts_by (λ j. term_in st j) (λ m. part_in st p.0 m) 1 n
@@ -49,7 +54,7 @@ module _ (rs : List Eq) (low : ℕ) (st : Store) (q : Roots) (fr : Frames) (p : 
   t0 = term_in st first.0
 
   abbrev top_frame : Frame
-  top_frame = record { sign = f; others = n; done = 0; asked = k.word }
+  top_frame = record { sign = f; others = n; done = 0; asked = k.kept }
 
   end_is : q.top + n - n ≡ q.top
   end_is = omega arith
@@ -74,7 +79,7 @@ module _ (rs : List Eq) (low : ℕ) (st : Store) (q : Roots) (fr : Frames) (p : 
   depth_is : gr.depth ≡ suc fr.depth
   depth_is = k.depth ∙ add-one fr.depth
 
-  frames_are : frames_in st r gr ≡ frame f none1 ts ∷ ks
+  frames_are : frames_in (work st r gr) ≡ frame f none1 ts ∷ ks
   frames_are =
       let a0 : q.top + 0 ≡ q.top = omega arith in
       let n0 : n - 0 ≡ n = omega arith in
@@ -102,14 +107,14 @@ module _ (rs : List Eq) (low : ℕ) (st : Store) (q : Roots) (fr : Frames) (p : 
           let z : q.top + j ≡ i = omega arith in
           let e : root_in r i ≡ part_in st p.0 (j + 1) =
           ap (λ (x : ℕ). root_in r x) (sym z) ∙ o.parts j (omega (arith, o.top)) in
-          let b = run1.sound.shared.shape.below p.0 (j + 1) run1.focus (omega (arith, o.top, arity)) in
+          let b = st.shared.shape.below p.0 (j + 1) run1.focus (omega (arith, o.top, arity)) in
           omega (arith, e, b, run1.focus)
 
   asked : Asks (AskedFor rs st gr) (frame f none1 ts ∷ ks) t0
   asked = (
     subst (λ (d : ℕ). AskedFor rs st gr d t0)
         (sym (frames_length g fr.words.now fr.depth q.top))
-        (asked_new rs st gr fr.depth k.word first (ap (λ (x : Frame). x.asked) k.words.is) k.asked
+        (asked_new rs st gr fr.depth k.kept first (ap (λ (x : Frame). x.asked) k.words.is) k.asked
         (omega (arith, down, run1.focus))),
     asks_map (AskedFor rs st fr) (AskedFor rs st gr) ks (sign f (and1 t0 ts))
         (λ d u l a. asked_less rs st fr gr d u (λ m. omega (arith, k.fresh))
@@ -117,9 +122,8 @@ module _ (rs : List Eq) (low : ℕ) (st : Store) (q : Roots) (fr : Frames) (p : 
         (subst (Asks (AskedFor rs st fr) ks) parts_are run1.asked),
   )
 
-  running : Running rs low st r gr (Eval first)
+  running : Running rs low (work st r gr) (Eval first)
   running = record {
-    sound = run1.sound;
     honest = run1.honest;
     inside = record { fits = omega (arith, space.roots, o.cells, o.top); low = low_roots };
     framed = framed;
@@ -129,12 +133,12 @@ module _ (rs : List Eq) (low : ℕ) (st : Store) (q : Roots) (fr : Frames) (p : 
     asked = subst (λ (ls : List ModelFrame). Asks (AskedFor rs st gr) ls t0) (sym frames_are) asked;
   }
 
-  pub gone_in : TurnedTo rs low st q fr (Eval p) st r gr (Eval first)
+  pub gone_in : TurnedTo rs low (work st q fr) (Eval p) (work st r gr) (Eval first)
   gone_in = record {
-    holding = holding_same rs st p run1.sound run1.honest;
+    holding = holding_same rs st p run1.honest;
     running = running;
     goes = (
-      state_in st r gr (Eval first),
+      state_in (work st r gr) (Eval first),
       subst (λ (ls : List ModelFrame). Move rs (state ks (eval (term_in st p.0))) (state ls (eval t0))) (sym frames_are)
           (subst (λ (t : Term). Move rs (state ks (eval t)) (state (frame f none1 ts ∷ ks) (eval t0))) (sym parts_are) go_in),
       rest,

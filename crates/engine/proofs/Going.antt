@@ -1,5 +1,5 @@
 -- Turns: a change of the store under the frames, and one of the focus.
-use Rattle.std.proofs.Common.{◌≡◌, ℕ, ◌-◌, ◌<◌, ◌≤◌, List, [], sym, refl, ap, ◌∙◌, subst, ap₂, arith}
+use Rattle.std.proofs.Common.{◌≡◌, ℕ, ◌<◌, ◌≤◌, List, [], sym, refl, ap, ◌∙◌, subst, ap₂, arith}
 use Rattle.rewriting.specs.Terms.{Term, sign, Terms}
 use Rattle.rewriting.specs.Rules.{Eq, Steps, stay}
 use Rattle.rewriting.specs.Machine.{eval, back, apply, state, Move, known, at_once, known_sign, by_rule, Moves, rest}
@@ -19,37 +19,34 @@ use Rattle.engine.specs.Frames.{frame_at}
 use Rattle.engine.specs.Running.{focus_place, focus_of, frames_in, state_in, Asks, AskedFor, Running, Holding}
 use Rattle.engine.specs.Turning.{ComesTo, TurnedTo}
 use Rattle.engine.proofs.Honesty.{holding_on}
-use Rattle.engine.proofs.Contexts.{frames_same, framed_low, asks_map, asks_steps}
+use Rattle.engine.proofs.Contexts.{work, frames_same, framed_low, asks_map, asks_steps}
 
 module _ (rs : List Eq) where
   -- what is asked for
   pub asked_on : (st : Store) (fr : Frames) (d : ℕ) (v w : Term) → Steps rs v w → AskedFor rs st fr d v → AskedFor rs st fr d w
-  asked_on st fr d v w h a f p = let x = a f p in (x.0, trans x.1 h)
+  asked_on st fr d v w h a f p e = let x = a f p e in (x.0, trans x.1 h)
 
   pub asked_less : (st : Store) (fr gr : Frames) (d : ℕ) (u : Term) → (gr.fresh ≤ d → fr.fresh ≤ d) →
       frame_at gr.words.now d ≡ frame_at fr.words.now d → AskedFor rs st fr d u → AskedFor rs st gr d u
-  asked_less st fr gr d u l e a f p =
-      let z : (frame_at gr.words.now d).asked ≡ (frame_at fr.words.now d).asked = ap (λ (k : Frame). k.asked) e in
-      subst (λ (k : Frame). (k.asked ≤ st.count) × Steps rs (term_in st (k.asked - 1)) u) (sym e) (a (l f) (omega (arith, z)))
+  asked_less st fr gr d u l e a f p z =
+      a (l f) p (sym (ap (λ (k : Frame). k.asked) e) ∙ z)
 
   module _ (st su : Store) (h : Holding rs st su) where
     pub asked_holding : (fr : Frames) (d : ℕ) (u : Term) → AskedFor rs st fr d u → AskedFor rs su fr d u
-    asked_holding fr d u a f p =
-        let x = a f p in
-        let w = (frame_at fr.words.now d).asked in
-        (omega (arith, x.0, h.longer), subst (λ (t : Term). Steps rs t u) (sym (h.terms (w - 1) (omega (arith, x.0)))) x.1)
+    asked_holding fr d u a f p e =
+        let x = a f p e in
+        (omega (arith, x.0, h.longer), subst (λ (t : Term). Steps rs t u) (sym (h.terms p.0 x.0)) x.1)
 
-    module _ (low : ℕ) (q : Roots) (fr : Frames) (c : Focus) (run1 : Running rs low st q fr c) where
-      pub frames_holding : frames_in su q fr ≡ frames_in st q fr
+    module _ (low : ℕ) (q : Roots) (fr : Frames) (c : Focus) (run1 : Running rs low (work st q fr) c) where
+      pub frames_holding : frames_in (work su q fr) ≡ frames_in (work st q fr)
       frames_holding =
           frames_same (λ k. held st q k) (λ k. held su q k) fr.words.now fr.words.now fr.depth q.top low run1.framed
           (λ k l. h.terms (root_in q k) (run1.inside.low k l)) (λ e l. refl)
 
       -- another focus, to which steps lead
       pub running_to : (e : Focus) → focus_place e < su.count → Steps rs (term_in st (focus_place c)) (term_in su (focus_place e)) →
-          Running rs low su q fr e
+          Running rs low (work su q fr) e
       running_to e l s = record {
-        sound = h.sound;
         honest = h.honest;
         inside = record {
           fits = run1.inside.fits;
@@ -60,9 +57,9 @@ module _ (rs : List Eq) where
         fresh = run1.fresh;
         focus = l;
         asked = subst (λ (ks : List ModelFrame). Asks (AskedFor rs su fr) ks (term_in su (focus_place e))) (sym frames_holding)
-            (asks_steps rs (AskedFor rs su fr) (frames_in st q fr) (term_in st (focus_place c)) (term_in su (focus_place e))
+            (asks_steps rs (AskedFor rs su fr) (frames_in (work st q fr)) (term_in st (focus_place c)) (term_in su (focus_place e))
             (λ d v w k a. asked_on su fr d v w k a) s
-            (asks_map (AskedFor rs st fr) (AskedFor rs su fr) (frames_in st q fr) (term_in st (focus_place c))
+            (asks_map (AskedFor rs st fr) (AskedFor rs su fr) (frames_in (work st q fr)) (term_in st (focus_place c))
             (λ d u m a. asked_holding fr d u a) run1.asked));
       }
 
@@ -90,16 +87,16 @@ module _ (rs : List Eq) where
   comes_steps t su (Back q) b = b.steps
 
   -- a turn that changes the focus only
-  pub turned_at : (low : ℕ) (st su : Store) (q : Roots) (fr : Frames) (p : Place) (e : Focus) → Running rs low st q fr (Eval p) →
-      Holding rs st su → ComesTo rs (term_in st p.0) su e → low ≤ q.top → TurnedTo rs low st q fr (Eval p) su q fr e
+  pub turned_at : (low : ℕ) (st su : Store) (q : Roots) (fr : Frames) (p : Place) (e : Focus) → Running rs low (work st q fr) (Eval p) →
+      Holding rs st su → ComesTo rs (term_in st p.0) su e → low ≤ q.top → TurnedTo rs low (work st q fr) (Eval p) (work su q fr) e
   turned_at low st su q fr p e r h b l =
       let t = term_in st p.0 in
-      let ks = frames_in st q fr in
+      let ks = frames_in (work st q fr) in
       record {
         holding = h;
         running = running_to st su h low q fr (Eval p) r e (comes_inside t su e b) (comes_steps t su e b);
         goes = (
-          state_in su q fr e,
+          state_in (work su q fr) e,
           subst (λ (x : List ModelFrame). Move rs (state ks (eval t)) (state x (focus_of su e)))
               (sym (frames_holding st su h low q fr (Eval p) r)) (comes_move ks t su e b),
           rest,
@@ -118,7 +115,7 @@ module _ (rs : List Eq) where
   focus_holding su sv h (Back p) l = ap back (h.terms p.0 l)
 
   pub turned_holding : (low : ℕ) (st : Store) (q : Roots) (fr : Frames) (c : Focus) (su : Store) (r : Roots) (gr : Frames) (e : Focus)
-      (sv : Store) → TurnedTo rs low st q fr c su r gr e → Holding rs su sv → TurnedTo rs low st q fr c sv r gr e
+      (sv : Store) → TurnedTo rs low (work st q fr) c (work su r gr) e → Holding rs su sv → TurnedTo rs low (work st q fr) c (work sv r gr) e
   turned_holding low st q fr c su r gr e sv t h =
       let x = t.running in
       let i = focus_place e in

@@ -25,11 +25,11 @@ use Rattle.engine.specs.Running.{run, frames_of, Framed, focus_place, focus_of, 
 use Rattle.engine.specs.Turning.{ComesTo, Applied, Ready, TurnedTo, PartsGathered}
 use Rattle.engine.proofs.Pendings.{zero_place}
 use Rattle.engine.proofs.Honesty.{holding_grown, holding_on}
-use Rattle.engine.proofs.Contexts.{run_shift, run_by, run_behind, frames_same, framed_same, framed_low, frames_length, asks_map, asks_steps}
+use Rattle.engine.proofs.Contexts.{work, run_shift, run_by, run_behind, frames_same, framed_same, framed_low, frames_length, asks_map, asks_steps}
 use Rattle.engine.proofs.Going.{asked_less, asked_on, asked_holding, comes_inside, comes_steps, comes_apply}
 use Rattle.engine.proofs.Onward.{depth_more, framed_more}
 
-module _ (b : Book) (low : ℕ) (st : Store) (q : Roots) (fr : Frames) (v : Place) (ready : Ready b low st q fr (Back v))
+module _ (b : Book) (low : ℕ) (st : Store) (q : Roots) (fr : Frames) (v : Place) (ready : Ready b low (work st q fr) (Back v))
     (pos : 0 < fr.depth) where
   abbrev rs : List Eq
   rs = (told b).rules
@@ -59,18 +59,18 @@ module _ (b : Book) (low : ℕ) (st : Store) (q : Roots) (fr : Frames) (v : Plac
   top_framed = framed_more rs low st q fr v ready.running pos
 
   module _ (full : x.done ≡ x.others) where
-    frames_were : frames_in st q fr ≡ frame x.sign bs none1 ∷ ks
+    frames_were : frames_in (work st q fr) ≡ frame x.sign bs none1 ∷ ks
     frames_were =
         let z : x.others - x.done ≡ 0 = omega arith in
         ap (λ (m : ℕ). frames_of g fr.words.now m q.top) (depth_more rs low st q fr v ready.running pos)
         ∙ ap (λ (n : ℕ). frame x.sign bs (run g (a + x.done) n) ∷ ks) z
 
-    out : Move rs (state_in st q fr (Back v)) (state ks (apply x.sign (behind bs tv)))
+    out : Move rs (state_in (work st q fr) (Back v)) (state ks (apply x.sign (behind bs tv)))
     out =
         subst (λ (ls : List ModelFrame). Move rs (state ls (back tv)) (state ks (apply x.sign (behind bs tv)))) (sym frames_were) go_out
 
     valid : Valid (told b) (state ks (apply x.sign (behind bs tv)))
-    valid = move_valid (told b) ready.book.reads.fine ready.down out ready.valid
+    valid = move_valid (told b) b.reads.fine ready.down out ready.valid
 
     module _ (ps : List Place) (su : Store) (p : Place) (parts : PartsGathered q a x.others v ps)
         (shared : SignShared st x.sign ps (x.others + 1) su p) where
@@ -90,9 +90,7 @@ module _ (b : Book) (low : ℕ) (st : Store) (q : Roots) (fr : Frames) (v : Plac
 
       pub rewritable : Rewritable b su p
       rewritable = record {
-        book = ready.book;
         down = ready.down;
-        sound = shared.sound;
         inside = shared.inside;
         fits = subst (Fits (told b).parts) (sym sign_is)
             (plug_fits (told b).parts ks (sign x.sign (behind bs tv)) valid.fits).1;
@@ -122,7 +120,7 @@ module _ (b : Book) (low : ℕ) (st : Store) (q : Roots) (fr : Frames) (v : Plac
         depth_is : gr.depth ≡ d
         depth_is = omega (arith, pop.depth)
 
-        frames_are : frames_in sv r gr ≡ ks
+        frames_are : frames_in (work sv r gr) ≡ ks
         frames_are =
             ap₂ (λ (m n : ℕ). frames_of (λ j. held sv r j) gr.words.now m n) depth_is cut.top
             ∙ frames_same g (λ j. held sv r j) fr.words.now gr.words.now d a low top_framed.3
@@ -147,9 +145,8 @@ module _ (b : Book) (low : ℕ) (st : Store) (q : Roots) (fr : Frames) (v : Plac
             asked_less rs sv fr gr m u (λ n. pop.later m n (omega (arith, depth_is)))
             (ap (λ (ws : List ℕ). frame_at ws m) pop.words) (asked_holding rs st sv hold fr m u o)) was.1)
 
-        running : Running rs low sv r gr e
+        running : Running rs low (work sv r gr) e
         running = record {
-          sound = hold.sound;
           honest = hold.honest;
           inside = record {
             fits = omega (arith, ready.running.inside.fits, ap length cut.cells, cut.top);
@@ -164,7 +161,7 @@ module _ (b : Book) (low : ℕ) (st : Store) (q : Roots) (fr : Frames) (v : Plac
           asked = subst (λ (ls : List ModelFrame). Asks (AskedFor rs sv gr) ls (term_in sv (focus_place e))) (sym frames_are) asked;
         }
 
-        pub gone_out : TurnedTo rs low st q fr (Back v) sv r gr e
+        pub gone_out : TurnedTo rs low (work st q fr) (Back v) (work sv r gr) e
         gone_out = record {
           holding = hold;
           running = running;

@@ -1,5 +1,5 @@
 -- Matching symbol by symbol: what each turn keeps, and why it stops.
-use Rattle.std.proofs.Common.{◌≡◌, ℕ, zero, suc, ◌+◌, ◌*◌, ◌<◌, ◌≤◌, Bool, true, false, ◌≢◌, ◌⊎◌, List, ◌∷◌, ◌++◌, length, get_or, drop}
+use Rattle.std.proofs.Common.{◌≡◌, ℕ, zero, suc, ◌+◌, ◌*◌, ◌<◌, ◌≤◌, Bool, true, false, ◌≢◌, ◌⊎◌, List, ◌∷◌, length, get_or, drop}
 use Rattle.std.proofs.Common.{set, replicate, Some, None, Option as Maybe, sym, refl, ap, ◌∙◌, subst, ap₂, inl, inr, append-nil, arith}
 use Rattle.std.proofs.Common.{length-drop, length-set, get_or-drop, get_or-set_other, get_or-set_same, drop-drop}
 use mathlib.Core.Option.{some}
@@ -11,7 +11,7 @@ use Rattle.books.specs.Rows.{row, rows}
 use Rattle.books.specs.Reading.{tag, number, SymbolAt}
 use Rattle.books.specs.declared.words.Symbol.{Symbol}
 use Rattle.books.specs.declared.words.Symbol.TheVariants.{Letter, Sign}
-use Rattle.books.proofs.Glueing.{over_glue}
+use Rattle.books.proofs.Glueing.{over_glue, row_length}
 use Rattle.rewriting.proofs.Glueing.{count_glue, count_sizes, size_some, puts_glue, glue_apart}
 use Rattle.rewriting.proofs.Replacing.{count_puts}
 use Rattle.books.proofs.Forests.{opened, behind_sizes, behind_rows, behind_over}
@@ -20,8 +20,8 @@ use Rattle.store.specs.declared.types.Place.{Place}
 use Rattle.store.specs.Stores.{term_in}
 use Rattle.engine.specs.declared.types.Pending.{Pending}
 use Rattle.engine.specs.declared.types.Bindings.{Bindings}
-use Rattle.engine.specs.Matching.{bound, Agrees, term_or, put_in, AllInside, Bound, BoundNow}
-use Rattle.engine.specs.Matching.{Matched, Extended, MatchedOn, Pattern}
+use Rattle.engine.specs.Matching.{bound, Agrees, term_or, put_in, AllInside, Bound, BoundNow, nothing}
+use Rattle.engine.specs.Matching.{Instance, Extended, MatchedOn, Pattern}
 use Rattle.engine.specs.Matching.{stacked, PlacesInside, Single, Popped, Pushed, PartsPending}
 use Rattle.engine.specs.Matching.{MatchingWith, Matching, MatchesAll, Turned}
 use Rattle.engine.proofs.Pendings.{zero_place}
@@ -85,15 +85,15 @@ abbrev first_symbol : Term → Symbol
 first_symbol (letter x) = Letter x
 first_symbol (sign f us) = Sign f
 
-module _ (ps ws : List ℕ) (to : ℕ) (b0 : Bindings) (l t : Term) (st : Store) (a : ℕ) (q : Pending) (b : Bindings) where
+module _ (ps ws : List ℕ) (b0 : Bindings) (l t : Term) (st : Store) (a : ℕ) (q : Pending) (b : Bindings) where
   -- the words of the first pattern, and those behind them
-  words_first : (u : Term) (us : Terms) → MatchingWith ps ws to b0 l t st a q b (and1 u us) →
-      drop a ws ≡ tag (first_symbol u) ∷ number (first_symbol u) ∷ (rows (opened u us) ++ drop to ws)
+  words_first : (u : Term) (us : Terms) → MatchingWith ps ws b0 l t st a q b (and1 u us) →
+      drop a ws ≡ tag (first_symbol u) ∷ number (first_symbol u) ∷ rows (opened u us)
   words_first (letter x) us m = m.written
   words_first (sign f vs) us m =
-      m.written ∙ ap (λ (v : List ℕ). 1 ∷ f ∷ (v ++ drop to ws)) (sym (behind_rows (and1 (sign f vs) us)))
+      m.written ∙ ap (λ (v : List ℕ). 1 ∷ f ∷ v) (sym (behind_rows (and1 (sign f vs) us)))
 
-  here_symbol : (u : Term) (us : Terms) → MatchingWith ps ws to b0 l t st a q b (and1 u us) → SymbolAt ws a (Some (first_symbol u))
+  here_symbol : (u : Term) (us : Terms) → MatchingWith ps ws b0 l t st a q b (and1 u us) → SymbolAt ws a (Some (first_symbol u))
   here_symbol u us m =
       let e = words_first u us m in
       let z : a + 0 ≡ a = omega arith in (
@@ -102,14 +102,14 @@ module _ (ps ws : List ℕ) (to : ℕ) (b0 : Bindings) (l t : Term) (st : Store)
         sym (get_or-drop a ws 1 0) ∙ ap (λ (v : List ℕ). get_or v 1 0) e,
       )
 
-  words_next : (u : Term) (us : Terms) → MatchingWith ps ws to b0 l t st a q b (and1 u us) →
-      drop (a + 2) ws ≡ rows (opened u us) ++ drop to ws
+  words_next : (u : Term) (us : Terms) → MatchingWith ps ws b0 l t st a q b (and1 u us) →
+      drop (a + 2) ws ≡ rows (opened u us)
   words_next u us m = sym (drop-drop 2 a ws) ∙ ap (drop 2) (words_first u us m)
 
-  long_next : (u : Term) (us : Terms) → MatchingWith ps ws to b0 l t st a q b (and1 u us) → a + 2 + 2 * sizes (opened u us) ≡ to
+  long_next : (u : Term) (us : Terms) → MatchingWith ps ws b0 l t st a q b (and1 u us) → a + 2 + 2 * sizes (opened u us) ≡ length ws
   long_next u us m = omega (arith, m.long, behind_sizes (and1 u us) (omega (arith, size_some u)))
 
-  over_next : (u : Term) (us : Terms) → MatchingWith ps ws to b0 l t st a q b (and1 u us) → AllOver SmallLetter ps (opened u us)
+  over_next : (u : Term) (us : Terms) → MatchingWith ps ws b0 l t st a q b (and1 u us) → AllOver SmallLetter ps (opened u us)
   over_next u us m = behind_over SmallLetter ps (and1 u us) m.over
 
   module _ (p : Place) (r : Pending) (pop : Popped q p r)
@@ -122,14 +122,14 @@ module _ (ps ws : List ℕ) (to : ℕ) (b0 : Bindings) (l t : Term) (st : Store)
         ∙ ap₂ (λ (x : Place) (ts : Terms). and1 (term_in st x.0) ts) (sym pop.place)
         (ap (λ (xs : List Place). stacked st xs r.len) (sym pop.places))
 
-    pending_inside : (us : Terms) → MatchingWith ps ws to b0 l t st a q b us → PlacesInside st r.places r.len
+    pending_inside : (us : Terms) → MatchingWith ps ws b0 l t st a q b us → PlacesInside st r.places r.len
     pending_inside us m d h =
         subst (λ (xs : List Place). (get_or xs d zero_place).0 < st.count) (sym pop.places) (m.inside d (omega (arith, pop.len)))
 
-    place_inside : (us : Terms) → MatchingWith ps ws to b0 l t st a q b us → p.0 < st.count
+    place_inside : (us : Terms) → MatchingWith ps ws b0 l t st a q b us → p.0 < st.count
     place_inside us m = subst (λ (x : Place). x.0 < st.count) (sym pop.place) (m.inside r.len (omega (arith, pop.len)))
 
-    both_fit : (us : Terms) → MatchingWith ps ws to b0 l t st a q b us →
+    both_fit : (us : Terms) → MatchingWith ps ws b0 l t st a q b us →
         AllOver AnyLetter ps (and1 (term_in st p.0) (stacked st r.places r.len))
     both_fit us m = subst (AllOver AnyLetter ps) pending_first m.fit
 
@@ -145,8 +145,8 @@ module _ (ps ws : List ℕ) (to : ℕ) (b0 : Bindings) (l t : Term) (st : Store)
     first_of s u us d e = ap₂ and1 d e ∙ sym pending_first
 
     -- a letter
-    same_place : (x : ℕ) (us : Terms) → MatchingWith ps ws to b0 l t st a q b (and1 (letter x) us) → bound b x ≡ Some p →
-        MatchingWith ps ws to b0 l t st (a + 2) r b us
+    same_place : (x : ℕ) (us : Terms) → MatchingWith ps ws b0 l t st a q b (and1 (letter x) us) → bound b x ≡ Some p →
+        MatchingWith ps ws b0 l t st (a + 2) r b us
     same_place x us m k = record {
       over = m.over.1;
       written = words_next (letter x) us m;
@@ -166,8 +166,8 @@ module _ (ps ws : List ℕ) (to : ℕ) (b0 : Bindings) (l t : Term) (st : Store)
         seen y (inr (here is)) = inl (p, k)
         seen y (inr (there i)) = inr i
 
-    new_place : (x : ℕ) (us : Terms) (c : Bindings) → MatchingWith ps ws to b0 l t st a q b (and1 (letter x) us) → x < 32 →
-        bound b x ≡ None → c.at ≡ set b.at x (Some p) → MatchingWith ps ws to b0 l t st (a + 2) r c us
+    new_place : (x : ℕ) (us : Terms) (c : Bindings) → MatchingWith ps ws b0 l t st a q b (and1 (letter x) us) → x < 32 →
+        bound b x ≡ None → c.at ≡ set b.at x (Some p) → MatchingWith ps ws b0 l t st (a + 2) r c us
     new_place x us c m low k e =
         let below : x < length b.at = omega (arith, m.full) in
         record {
@@ -195,15 +195,15 @@ module _ (ps ws : List ℕ) (to : ℕ) (b0 : Bindings) (l t : Term) (st : Store)
         seen y (inr (there i)) = inr i
 
     -- a sign
-    same_count : (f : ℕ) (vs us ts : Terms) → MatchingWith ps ws to b0 l t st a q b (and1 (sign f vs) us) → term_in st p.0 ≡ sign f ts →
+    same_count : (f : ℕ) (vs us ts : Terms) → MatchingWith ps ws b0 l t st a q b (and1 (sign f vs) us) → term_in st p.0 ≡ sign f ts →
         count vs ≡ count ts
     same_count f vs us ts m e =
         let h : Over AnyLetter ps (sign f ts) = subst (Over AnyLetter ps) e (both_fit (and1 (sign f vs) us) m).0 in
         let d : some (count vs) ≡ some (count ts) = sym m.over.0.0 ∙ h.0 in
         cc
 
-    parts_next : (f : ℕ) (vs us ts : Terms) (r2 : Pending) → MatchingWith ps ws to b0 l t st a q b (and1 (sign f vs) us) →
-        term_in st p.0 ≡ sign f ts → Pushed st r ts r2 → MatchingWith ps ws to b0 l t st (a + 2) r2 b (glue vs us)
+    parts_next : (f : ℕ) (vs us ts : Terms) (r2 : Pending) → MatchingWith ps ws b0 l t st a q b (and1 (sign f vs) us) →
+        term_in st p.0 ≡ sign f ts → Pushed st r ts r2 → MatchingWith ps ws b0 l t st (a + 2) r2 b (glue vs us)
     parts_next f vs us ts r2 m e d = record {
       over = over_next (sign f vs) us m;
       written = words_next (sign f vs) us m;
@@ -242,14 +242,14 @@ module _ (ps ws : List ℕ) (to : ℕ) (b0 : Bindings) (l t : Term) (st : Store)
         seen y (inr (here (part i))) = inr (ins_glue vs us (inl i))
         seen y (inr (there i)) = inr (ins_glue vs us (inr i))
 
-    no_patterns : MatchingWith ps ws to b0 l t st a q b none1 → ⊥
+    no_patterns : MatchingWith ps ws b0 l t st a q b none1 → ⊥
     no_patterns m = omega (arith, m.counted, pop.len)
 
     -- a turn at a letter
     letter_with : (x : ℕ) (c : Bindings) → x < 32 → (res : Bool) → BoundNow b x p c res → (us : Terms) →
-        MatchingWith ps ws to b0 l t st a q b (and1 (letter x) us) → Turned ps ws to b0 l t st (a + 2) r c res
+        MatchingWith ps ws b0 l t st a q b (and1 (letter x) us) → Turned ps ws b0 l t st (a + 2) r c res
     letter_with x c low true (inl (k, e)) us m =
-        (us, subst (λ (d : Bindings). MatchingWith ps ws to b0 l t st (a + 2) r d us) (sym e) (same_place x us m k))
+        (us, subst (λ (d : Bindings). MatchingWith ps ws b0 l t st (a + 2) r d us) (sym e) (same_place x us m k))
     letter_with x c low true (inr (k, e)) us m = (us, new_place x us c m low k e)
     letter_with x c low false (o, k, ne) us m = λ s g0 e.
         let n = m.needed s g0 e in
@@ -258,7 +258,7 @@ module _ (ps ws : List ℕ) (to : ℕ) (b0 : Bindings) (l t : Term) (st : Store)
 
     -- a turn at a sign
     sign_with : (f : ℕ) (r2 : Pending) (res : Bool) → PartsPending st p f r r2 res → (vs us : Terms) →
-        MatchingWith ps ws to b0 l t st a q b (and1 (sign f vs) us) → Turned ps ws to b0 l t st (a + 2) r2 b res
+        MatchingWith ps ws b0 l t st a q b (and1 (sign f vs) us) → Turned ps ws b0 l t st (a + 2) r2 b res
     sign_with f r2 true (ts, e, d) vs us m = (glue vs us, parts_next f vs us ts r2 m e d)
     sign_with f r2 false none_there vs us m = λ s g0 e.
         none_there (puts s vs) (sym (first_is s (sign f vs) us (m.needed s g0 e).1).0)
@@ -267,35 +267,35 @@ module _ (ps ws : List ℕ) (to : ℕ) (b0 : Bindings) (l t : Term) (st : Store)
     zero_one e = omega arith
 
     pub letter_turn : (x : ℕ) → SymbolAt ws a (Some (Letter x)) → (c : Bindings) → x < 32 → (res : Bool) → BoundNow b x p c res →
-        Matching ps ws to b0 l t st a q b → Turned ps ws to b0 l t st (a + 2) r c res
+        Matching ps ws b0 l t st a q b → Turned ps ws b0 l t st (a + 2) r c res
     letter_turn x y c low res h (none1, m) = absurd (no_patterns m)
     letter_turn x y c low res h (and1 (letter z) us, m) =
         let e : z ≡ x = sym (here_symbol (letter z) us m).2 ∙ y.2 in
-        letter_with x c low res h us (subst (λ (k : ℕ). MatchingWith ps ws to b0 l t st a q b (and1 (letter k) us)) e m)
+        letter_with x c low res h us (subst (λ (k : ℕ). MatchingWith ps ws b0 l t st a q b (and1 (letter k) us)) e m)
     letter_turn x y c low res h (and1 (sign g vs) us, m) = absurd (zero_one (sym y.1 ∙ (here_symbol (sign g vs) us m).1))
 
-    pub large_letter : (x : ℕ) → SymbolAt ws a (Some (Letter x)) → 32 ≤ x → Matching ps ws to b0 l t st a q b → ⊥
+    pub large_letter : (x : ℕ) → SymbolAt ws a (Some (Letter x)) → 32 ≤ x → Matching ps ws b0 l t st a q b → ⊥
     large_letter x y high (none1, m) = no_patterns m
     large_letter x y high (and1 (letter z) us, m) =
         omega (arith, m.over.0, (here_symbol (letter z) us m).2, y.2)
     large_letter x y high (and1 (sign g vs) us, m) = zero_one (sym y.1 ∙ (here_symbol (sign g vs) us m).1)
 
     pub sign_turn : (f : ℕ) → SymbolAt ws a (Some (Sign f)) → (r2 : Pending) (res : Bool) → PartsPending st p f r r2 res →
-        Matching ps ws to b0 l t st a q b → Turned ps ws to b0 l t st (a + 2) r2 b res
+        Matching ps ws b0 l t st a q b → Turned ps ws b0 l t st (a + 2) r2 b res
     sign_turn f y r2 res h (none1, m) = absurd (no_patterns m)
     sign_turn f y r2 res h (and1 (letter z) us, m) = absurd (zero_one (sym (here_symbol (letter z) us m).1 ∙ y.1))
     sign_turn f y r2 res h (and1 (sign g vs) us, m) =
         let e : g ≡ f = sym (here_symbol (sign g vs) us m).2 ∙ y.2 in
-        sign_with f r2 res h vs us (subst (λ (k : ℕ). MatchingWith ps ws to b0 l t st a q b (and1 (sign k vs) us)) e m)
+        sign_with f r2 res h vs us (subst (λ (k : ℕ). MatchingWith ps ws b0 l t st a q b (and1 (sign k vs) us)) e m)
 
-    pub no_turn : SymbolAt ws a None → Matching ps ws to b0 l t st a q b → ⊥
+    pub no_turn : SymbolAt ws a None → Matching ps ws b0 l t st a q b → ⊥
     no_turn y (none1, m) = no_patterns m
     no_turn y (and1 (letter z) us, m) = let h = here_symbol (letter z) us m in omega (arith, y h.0, h.1)
     no_turn y (and1 (sign g vs) us, m) = let h = here_symbol (sign g vs) us m in omega (arith, y h.0, h.1)
 
-pub of_place : (ws : List ℕ) (from1 to : ℕ) (b0 : Bindings) (st : Store) (x y : Place) (a : ℕ) (q : Pending) (b : Bindings) → x ≡ y →
-    MatchesAll ws from1 to b0 st x a q b → MatchesAll ws from1 to b0 st y a q b
-of_place ws from1 to b0 st x y a q b e = subst (λ (p : Place). MatchesAll ws from1 to b0 st p a q b) e
+pub of_place : (ws : List ℕ) (b0 : Bindings) (st : Store) (x y : Place) (a : ℕ) (q : Pending) (b : Bindings) → x ≡ y →
+    MatchesAll ws b0 st x a q b → MatchesAll ws b0 st y a q b
+of_place ws b0 st x y a q b e = subst (λ (p : Place). MatchesAll ws b0 st p a q b) e
 
 -- nothing is bound at first
 none_bound : {A : Type 0} (d : A) (n x : ℕ) → get_or (replicate n d) x d ≡ d
@@ -303,40 +303,47 @@ none_bound d zero x = refl
 none_bound d (suc n) zero = refl
 none_bound d (suc n) (suc x) = none_bound d n x
 
-pub unbound : (b : Bindings) → b.at ≡ replicate 32 None → (x : ℕ) (r : Place) → bound b x ≡ Some r → ⊥
-unbound b fresh x r k =
-    let e : ◌≡◌ {A = Maybe Place} None (Some r) = sym (ap (λ (v : List (Maybe Place)). get_or v x None) fresh ∙ none_bound None 32 x) ∙ k in
+pub unbound : (x : ℕ) (r : Place) → bound nothing x ≡ Some r → ⊥
+unbound x r k =
+    let e : ◌≡◌ {A = Maybe Place} None (Some r) = sym (none_bound None 32 x) ∙ k in
     let z : ◌≡◌ {A = ℕ} 0 1 = cc in
     omega arith
+
+abbrev made_of : List (Maybe Place) → Bindings
+made_of v = record { at = v }
+
+pub fresh_is : (b : Bindings) → b.at ≡ replicate 32 None → b ≡ nothing
+fresh_is b e = ap made_of e
 
 -- what the bindings say is as they say
 pub all_agree : (st : Store) (b : Bindings) → Agrees st b (put_in st b)
 all_agree st b x r k = ap (term_or st x) k
 
 -- matched from no bindings on
-pub matched_first : (st : Store) (b : Bindings) (l t : Term) (c : Bindings) (x : Bool) → b.at ≡ replicate 32 None →
-    MatchedOn st b l t c x → Matched st c l t x
-matched_first st b l t c true fresh m = record {
+pub instance_first : (st : Store) (l t : Term) (c : Bindings) → MatchedOn st nothing l t (Some c) → Instance st c l t
+instance_first st l t c m = record {
   is = (m.enough (put_in st c) (all_agree st c)).1;
   letters = λ x i. m.letters x (inr i);
   inside = m.inside;
 }
-matched_first st b l t c false fresh m = λ s e. m s (λ x r k. absurd (unbound b fresh x r k)) e
+
+pub none_first : (st : Store) (l t : Term) → MatchedOn st nothing l t None → (s : ℕ → Term) → put s l ≢ t
+none_first st l t m s e = m s (λ x r k. absurd (unbound x r k)) e
 
 -- the start: the whole pattern, and one place
-module _ (ps ws : List ℕ) (from1 to : ℕ) (l : Term) (st : Store) (p : Place) (q : Pending) (b : Bindings)
-    (pattern : Pattern ps ws from1 to l st p) (low : p.0 < st.count) (single : Single q p)
+module _ (ps ws : List ℕ) (l : Term) (st : Store) (p : Place) (q : Pending) (b : Bindings)
+    (pattern : Pattern ps ws l st p) (low : p.0 < st.count) (single : Single q p)
     (full : length b.at ≡ 32) (bound-low : AllInside st b) where
   one_pending : stacked st q.places q.len ≡ and1 (term_in st p.0) none1
   one_pending = ap (stacked st q.places) single.len ∙ ap (λ (r : Place). and1 (term_in st r.0) none1) single.place
 
-  pub match_start : Matching ps ws to b l (term_in st p.0) st from1 q b
+  pub match_start : Matching ps ws b l (term_in st p.0) st 0 q b
   match_start = (
     and1 l none1,
     record {
       over = (pattern.over, tt);
-      written = pattern.at.written ∙ ap (λ (v : List ℕ). v ++ drop to ws) (sym (append-nil (row l)));
-      long = omega (arith, pattern.at.long);
+      written = pattern.written ∙ sym (append-nil (row l));
+      long = omega (arith, ap length pattern.written, row_length l);
       counted = sym single.len;
       inside = λ d h. inside d (omega (arith, single.len));
       fit = subst (AllOver AnyLetter ps) (sym one_pending) (pattern.fits, tt);
@@ -353,8 +360,8 @@ module _ (ps ws : List ℕ) (from1 to : ℕ) (l : Term) (st : Store) (p : Place)
       inside (suc d) h = absurd (omega arith)
 
 -- the end: no symbol is left
-module _ (ps ws : List ℕ) (to : ℕ) (b0 : Bindings) (l t : Term) (st : Store) (a : ℕ) (q : Pending) (b : Bindings) where
-  all_matched : MatchingWith ps ws to b0 l t st a q b none1 → Extended st b0 l t b
+module _ (ps ws : List ℕ) (b0 : Bindings) (l t : Term) (st : Store) (a : ℕ) (q : Pending) (b : Bindings) where
+  all_matched : MatchingWith ps ws b0 l t st a q b none1 → Extended st b0 l t b
   all_matched m = record {
     enough = λ s h. m.enough s h (sym (ap (stacked st q.places) (sym m.counted)));
     needed = λ s h e. (m.needed s h e).0;
@@ -367,7 +374,7 @@ module _ (ps ws : List ℕ) (to : ℕ) (b0 : Bindings) (l t : Term) (st : Store)
       bound_at x (inl h) = h
       bound_at x (inr i) = elim i [ ]
 
-  pub match_end : Matching ps ws to b0 l t st a q b → to ≤ a → Extended st b0 l t b
+  pub match_end : Matching ps ws b0 l t st a q b → length ws ≤ a → Extended st b0 l t b
   match_end (none1, m) h = all_matched m
   match_end (and1 u us, m) h = absurd (omega (arith, m.long, size_some u))
 
@@ -376,7 +383,7 @@ module _ (ps ws : List ℕ) (to : ℕ) (b0 : Bindings) (l t : Term) (st : Store)
   some_left none1 h = absurd (omega arith)
   some_left (and1 u us) h = omega arith
 
-  pub match_room : (from1 : ℕ) → from1 ≤ a → to ≤ from1 + 64 → a < to → Matching ps ws to b0 l t st a q b →
+  pub match_room : length ws ≤ 64 → a < length ws → Matching ps ws b0 l t st a q b →
       (0 < q.len) × (q.len ≤ 32) × PlacesInside st q.places q.len
-  match_room from1 h k g (us, m) =
+  match_room k g (us, m) =
       (omega (arith, m.counted, some_left us (omega (arith, m.long))), omega (arith, m.counted, m.long, count_sizes us), m.inside)

@@ -17,14 +17,14 @@ use Rattle.engine.specs.declared.types.Focus.TheVariants.{Eval, Back}
 use Rattle.engine.specs.Frames.{frame_at, GoneOn}
 use Rattle.engine.specs.Running.{run, frames_of, Framed, frames_in, state_in, Asks, AskedFor, Running}
 use Rattle.engine.specs.Turning.{TurnedTo}
-use Rattle.engine.proofs.Contexts.{run_same, run_behind, run_first, frames_top, framed_top, frames_same, framed_same, framed_low}
+use Rattle.engine.proofs.Contexts.{work, run_same, run_behind, run_first, frames_top, framed_top, frames_same, framed_same, framed_low}
 use Rattle.engine.proofs.Contexts.{frames_length, asks_map}
 use Rattle.engine.proofs.Advancing.{holding_same}
 use Rattle.engine.proofs.Going.{asked_less}
 use Rattle.engine.proofs.Entering.{asked_new}
 
 -- the top frame of at least one
-module _ (rs : List Eq) (low : ℕ) (st : Store) (q : Roots) (fr : Frames) (v : Place) (run1 : Running rs low st q fr (Back v))
+module _ (rs : List Eq) (low : ℕ) (st : Store) (q : Roots) (fr : Frames) (v : Place) (run1 : Running rs low (work st q fr) (Back v))
     (pos : 0 < fr.depth) where
   abbrev pub top_at : Frame
   top_at = frame_at fr.words.now (fr.depth - 1)
@@ -72,9 +72,9 @@ module _ (rs : List Eq) (low : ℕ) (st : Store) (q : Roots) (fr : Frames) (v : 
     tv = term_in st v.0
 
     abbrev y : Frame
-    y = record { sign = x.sign; others = x.others; done = x.done + 1; asked = k.word }
+    y = record { sign = x.sign; others = x.others; done = x.done + 1; asked = k.kept }
 
-    frames_were : frames_in st q fr ≡ frame x.sign bs (and1 tn ts) ∷ ks
+    frames_were : frames_in (work st q fr) ≡ frame x.sign bs (and1 tn ts) ∷ ks
     frames_were =
         ap (λ (m : ℕ). frames_of g fr.words.now m q.top) depth_more
         ∙ ap (λ (us : Terms). frame x.sign bs us ∷ ks)
@@ -98,7 +98,7 @@ module _ (rs : List Eq) (low : ℕ) (st : Store) (q : Roots) (fr : Frames) (v : 
     frames_below =
         frames_same g h fr.words.now gr.words.now d a low framed_more.3 (λ j l. same j (λ e. omega arith)) k.words.below
 
-    frames_are : frames_in st r gr ≡ frame x.sign (behind bs tv) ts ∷ ks
+    frames_are : frames_in (work st r gr) ≡ frame x.sign (behind bs tv) ts ∷ ks
     frames_are =
         ap₂ (λ (m e : ℕ). frames_of h gr.words.now m e) (k.depth ∙ depth_more) s.top
         ∙ frames_top h gr.words.now d q.top y k.words.is
@@ -130,7 +130,7 @@ module _ (rs : List Eq) (low : ℕ) (st : Store) (q : Roots) (fr : Frames) (v : 
         let was : Asks (AskedFor rs st fr) (frame x.sign bs (and1 tn ts) ∷ ks) tv =
         subst (λ (ls : List ModelFrame). Asks (AskedFor rs st fr) ls tv) frames_were run1.asked in (
           subst (λ (m : ℕ). AskedFor rs st gr m tn) (sym (frames_length g fr.words.now d a))
-              (asked_new rs st gr d k.word next (ap (λ (z : Frame). z.asked) k.words.is) k.asked next_inside),
+              (asked_new rs st gr d k.kept next (ap (λ (z : Frame). z.asked) k.words.is) k.asked next_inside),
           subst (Asks (AskedFor rs st gr) ks) (sym (around_behind x.sign bs tv tn ts))
               (asks_map (AskedFor rs st fr) (AskedFor rs st gr) ks (around (frame x.sign bs (and1 tn ts)) tv)
               (λ m u l o.
@@ -138,9 +138,8 @@ module _ (rs : List Eq) (low : ℕ) (st : Store) (q : Roots) (fr : Frames) (v : 
               asked_less rs st fr gr m u (λ n. k.later m n lower) (k.words.below m lower) o) was.1),
         )
 
-    running : Running rs low st r gr (Eval next)
+    running : Running rs low (work st r gr) (Eval next)
     running = record {
-      sound = run1.sound;
       honest = run1.honest;
       inside = record { fits = omega (arith, run1.inside.fits, s.long, s.top); low = low_roots };
       framed = framed;
@@ -150,13 +149,13 @@ module _ (rs : List Eq) (low : ℕ) (st : Store) (q : Roots) (fr : Frames) (v : 
       asked = subst (λ (ls : List ModelFrame). Asks (AskedFor rs st gr) ls tn) (sym frames_are) asked;
     }
 
-    pub gone_on : TurnedTo rs low st q fr (Back v) st r gr (Eval next)
+    pub gone_on : TurnedTo rs low (work st q fr) (Back v) (work st r gr) (Eval next)
     gone_on = record {
-      holding = holding_same rs st v run1.sound run1.honest;
+      holding = holding_same rs st v run1.honest;
       running = running;
       goes = (
-        state_in st r gr (Eval next),
-        subst (λ (ls : List ModelFrame). Move rs (state ls (back tv)) (state (frames_in st r gr) (eval tn))) (sym frames_were)
+        state_in (work st r gr) (Eval next),
+        subst (λ (ls : List ModelFrame). Move rs (state ls (back tv)) (state (frames_in (work st r gr)) (eval tn))) (sym frames_were)
             (subst (λ (ls : List ModelFrame). Move rs (state (frame x.sign bs (and1 tn ts) ∷ ks) (back tv)) (state ls (eval tn)))
             (sym frames_are) go_on),
         rest,

@@ -1,14 +1,14 @@
 -- Two rows read, and their terms compared.
-use Rattle.std.proofs.Common.{◌≡◌, ℕ, ◌+◌, ◌-◌, ◌*◌, ◌≤◌, Bool, true, false, List, [], ◌∷◌, length, take, drop, Ok, Err, sym, refl, ap}
-use Rattle.std.proofs.Common.{◌∙◌, subst, arith}
+use Rattle.std.proofs.Common.{◌≡◌, ℕ, ◌+◌, ◌*◌, ◌≤◌, Bool, true, false, List, [], ◌∷◌, length, Ok, Err, Result, sym}
+use Rattle.std.proofs.Common.{refl, ap, ◌∙◌, subst, arith, IsErr}
+use Rattle.std.proofs.lemmas.Bool.{false≢true}
 use Rattle.rewriting.specs.Terms.{Term, size, Fits, SmallLetter}
 use Rattle.rewriting.specs.Answers.{Tells}
 use Rattle.rewriting.specs.Different.{different, listed}
 use Rattle.rewriting.proofs.Signature.{over_fits}
 use Rattle.rewriting.proofs.Different.{different_size}
 use Rattle.books.specs.declared.row.Book.{Book}
-use Rattle.books.specs.Books.{told, SoundBook}
-use Rattle.books.specs.Reading.{signs_of, parts_of}
+use Rattle.books.specs.Books.{told}
 use Rattle.books.specs.Rows.{Of}
 use Rattle.books.specs.Layouts.{FewParts}
 use Rattle.books.proofs.Heads.{head_of}
@@ -17,59 +17,43 @@ use Rattle.store.specs.declared.types.Store.{Store}
 use Rattle.store.specs.declared.types.Roots.{Roots}
 use Rattle.store.specs.declared.types.Full.{Full}
 use Rattle.store.specs.declared.types.Full.TheVariants.{NoSlot, NoRoot}
-use Rattle.store.specs.Stores.{Sound, held, Inside, RootsKept}
+use Rattle.store.specs.Stores.{held, Inside, RootsKept}
 use Rattle.store.specs.Stacks.{CutTo}
 use Rattle.store.specs.Transfers.{RowOf, Read}
-use Rattle.engine.specs.declared.types.Frames.{Frames}
-use Rattle.engine.specs.declared.types.Compared.{Compared}
-use Rattle.engine.specs.declared.types.Compared.TheVariants.{Room}
+use Rattle.engine.specs.declared.types.NoRoom.{NoRoom}
+use Rattle.engine.specs.declared.work.Work.{Work}
+use Rattle.engine.specs.Normal.{root_term}
 use Rattle.engine.specs.Meeting.{Ample, Working, LeftIdle, TwoRoots, Compares}
 use Rattle.engine.specs.Pairs.{RowsOf, TwoRows, RowsRead}
 use Rattle.engine.proofs.Honesty.{honest_carried}
 use Rattle.engine.proofs.Comparing.{both_parts}
 
--- the signature, as a program takes it from the book's words
-module _ (k : Book) (sound : SoundBook k) (n : ℕ) (e : n ≡ k.layout.signs) where
-  abbrev parts_here : List ℕ
-  parts_here = take (1 + n - 1) (drop 1 k.words.now)
+-- the signature of a book
+module _ (k : Book) (ps : List ℕ) (e : ps ≡ (told k).parts) where
+  pub few : FewParts ps
+  few = book_parts k.words.now (told k) k.reads ps (e ∙ sym (head_of k.words.now (told k) k.reads).parts)
 
-  signs_are : n ≡ signs_of k.words.now
-  signs_are = e ∙ (sound.laid.signs ∙ sym (head_of k.words.now (told k) sound.reads).signs)
-
-  pub within : 1 + n ≤ length k.words.now
-  within = omega (arith, signs_are, (head_of k.words.now (told k) sound.reads).long)
-
-  parts_are : parts_here ≡ parts_of k.words.now
-  parts_are = let d : 1 + n - 1 ≡ signs_of k.words.now = omega (arith, signs_are) in
-      ap (λ (m : ℕ). take m (drop 1 k.words.now)) d
-
-  told_here : parts_here ≡ (told k).parts
-  told_here = parts_are ∙ (head_of k.words.now (told k) sound.reads).parts
-
-  pub few : FewParts parts_here
-  few = book_parts k.words.now (told k) sound.reads parts_here parts_are
-
-  pub row_here : (ws : List ℕ) (t : Term) → Of (told k).parts ws t → RowOf parts_here ws t
+  pub row_here : (ws : List ℕ) (t : Term) → Of (told k).parts ws t → RowOf ps ws t
   row_here ws t o = record {
     written = o.written;
-    fits = subst (λ (ps : List ℕ). Fits ps t) (sym told_here) (over_fits (told k).parts SmallLetter t o.fits);
+    fits = subst (λ (qs : List ℕ). Fits qs t) (sym e) (over_fits (told k).parts SmallLetter t o.fits);
   }
 
-  told_of : (ws : List ℕ) (t : Term) → Of parts_here ws t → Of (told k).parts ws t
-  told_of ws t o = subst (λ (ps : List ℕ). Of ps ws t) told_here o
+  told_of : (ws : List ℕ) (t : Term) → Of ps ws t → Of (told k).parts ws t
+  told_of ws t o = subst (λ (qs : List ℕ). Of qs ws t) e o
 
-  of_told : (ws : List ℕ) (t : Term) → Of (told k).parts ws t → Of parts_here ws t
-  of_told ws t o = subst (λ (ps : List ℕ). Of ps ws t) (sym told_here) o
+  of_told : (ws : List ℕ) (t : Term) → Of (told k).parts ws t → Of ps ws t
+  of_told ws t o = subst (λ (qs : List ℕ). Of qs ws t) (sym e) o
 
   -- both are terms: the left one is not, or it is and the right one tells
   module _ (ls rs : List ℕ) (x : Bool) where
-    pub left_not : x ≡ false → Tells x ((t : Term) × Of parts_here ls t) → Tells x (TwoRows k ls rs)
+    pub left_not : x ≡ false → Tells x ((t : Term) × Of ps ls t) → Tells x (TwoRows k ls rs)
     left_not f h = record {
       holds = λ g. let z : true ≡ false = sym g ∙ f in let y : ◌≡◌ {A = ℕ} 0 1 = cc in absurd (omega arith);
       fails = λ g w. h.fails g (w.0, of_told ls w.0 w.2.left);
     }
 
-    pub left_is : ((t : Term) × Of parts_here ls t) → Tells x ((u : Term) × Of parts_here rs u) → Tells x (TwoRows k ls rs)
+    pub left_is : ((t : Term) × Of ps ls t) → Tells x ((u : Term) × Of ps rs u) → Tells x (TwoRows k ls rs)
     left_is l h = record {
       holds = λ g. let r = h.holds g in
           (l.0, r.0, record { left = told_of ls l.0 l.1; right = told_of rs r.0 r.1 });
@@ -90,83 +74,89 @@ module _ (a : Store) (q : Roots) (t : Term) (b : Store) (r : Roots) where
   too_large NoSlot h n s c z l d = omega (arith, h.roots.1, s, d)
   too_large NoRoot h n s c z l d = h.roots.1 (omega (arith, c, z, l))
 
-module _ (k : Book) (sound : SoundBook k) (n : ℕ) (e : n ≡ k.layout.signs) (st : Store) (q : Roots) (z : q.top ≡ 0)
+module _ (k : Book) (ps : List ℕ) (e : ps ≡ (told k).parts) (w : Work) (z : w.roots.top ≡ 0)
     (ls rs : List ℕ) (two : TwoRows k ls rs) (su : Store) (r : Roots) where
-  abbrev ps : List ℕ
-  ps = parts_here k sound n e
+  abbrev with_one : Work
+  with_one = record { store = su; roots = r; frames = w.frames }
 
-  pub no_first : (f : Full) → ((t : Term) → RowOf ps ls t → Read st q t su r (Err f)) → RowsRead k st q ls rs su r false
-  no_first f h =
-      let one = h two.0 (row_here k sound n e ls two.0 two.2.left) in
+  pub no_first : {f : Full} → ((t : Term) → RowOf ps ls t → Read w.store w.roots t su r (Err f)) →
+      (x : Result (Unit {0}) NoRoom) → IsErr x → RowsRead k w ls rs with_one x
+  no_first h (Ok _) g = absurd (false≢true g)
+  no_first {f} h (Err _) g =
+      let one = h two.0 (row_here k ps e ls two.0 two.2.left) in
       record {
         sound = one.sound;
-        honest = λ es g. honest_carried es st su g one.carried;
+        honest = λ es g. honest_carried es w.store su g one.carried;
         room = one.room;
-        cells = (kept_then st q two.0 su r f one).long;
-        result = λ t u w fr m a l o. too_large st q t su r f (h t (row_here k sound n e ls t w.left)) m a.slots a.cells
+        cells = (kept_then w.store w.roots two.0 su r f one).long;
+        frames = refl;
+        result = λ t u o m a l l2. too_large w.store w.roots t su r f (h t (row_here k ps e ls t o.left)) m a.slots a.cells
             (omega (arith, z)) l
-            (subst (λ (i : ℕ). different (t ∷ listed (λ j. held st q j) i) ≤ 2 * m) (sym z) (omega (arith, different_size t, l)));
+            (subst (λ (i : ℕ). different (t ∷ listed (root_term w) i) ≤ 2 * m) (sym z) (omega (arith, different_size t, l)));
       }
 
-  module _ (first : (t : Term) → RowOf ps ls t → Read st q t su r (Ok tt)) where
+  module _ (first : (t : Term) → RowOf ps ls t → Read w.store w.roots t su r (Ok tt)) where
     one_top : r.top ≡ 1
-    one_top = omega (arith, (first two.0 (row_here k sound n e ls two.0 two.2.left)).roots.top, z)
+    one_top = omega (arith, (first two.0 (row_here k ps e ls two.0 two.2.left)).roots.top, z)
 
     one_held : (t : Term) → Of (told k).parts ls t → held su r 0 ≡ t
-    one_held t o = subst (λ (i : ℕ). held su r i ≡ t) z (first t (row_here k sound n e ls t o)).roots.term
+    one_held t o = subst (λ (i : ℕ). held su r i ≡ t) z (first t (row_here k ps e ls t o)).roots.term
 
-    one_read : Read st q two.0 su r (Ok tt)
-    one_read = first two.0 (row_here k sound n e ls two.0 two.2.left)
+    one_read : Read w.store w.roots two.0 su r (Ok tt)
+    one_read = first two.0 (row_here k ps e ls two.0 two.2.left)
 
     -- the right row is next
     pub next_inside : Inside su r
     next_inside = one_read.roots.inside
 
-    pub next_sound : Sound su
-    next_sound = one_read.sound
-
     module _ (sv : Store) (v : Roots) where
-      pub no_second : (f : Full) → ((u : Term) → RowOf ps rs u → Read su r u sv v (Err f)) → RowsRead k st q ls rs sv v false
-      no_second f h =
-          let one = h two.1 (row_here k sound n e rs two.1 two.2.right) in
+      abbrev with_two : Work
+      with_two = record { store = sv; roots = v; frames = w.frames }
+
+      pub no_second : {f : Full} → ((u : Term) → RowOf ps rs u → Read su r u sv v (Err f)) →
+          (x : Result (Unit {0}) NoRoom) → IsErr x → RowsRead k w ls rs with_two x
+      no_second h (Ok _) g = absurd (false≢true g)
+      no_second {f} h (Err _) g =
+          let one = h two.1 (row_here k ps e rs two.1 two.2.right) in
           record {
             sound = one.sound;
-            honest = λ es g. honest_carried es su sv (honest_carried es st su g one_read.carried) one.carried;
+            honest = λ es g. honest_carried es su sv (honest_carried es w.store su g one_read.carried) one.carried;
             room = one.room ∙ one_read.room;
             cells = (kept_then su r two.1 sv v f one).long ∙ one_read.roots.long;
-            result = λ t u w fr m a l o. too_large su r u sv v f (h u (row_here k sound n e rs u w.right)) m
+            frames = refl;
+            result = λ t u w m a l o. too_large su r u sv v f (h u (row_here k ps e rs u w.right)) m
                 (omega (arith, a.slots, one_read.room)) (omega (arith, a.cells, one_read.roots.long)) (omega (arith, one_top)) o
                 (subst (λ (i : ℕ). different (u ∷ listed (λ j. held su r j) i) ≤ 2 * m) (sym one_top)
                 (subst (λ (x : Term). different (u ∷ x ∷ []) ≤ 2 * m) (sym (one_held t w.left))
                 (omega (arith, both_parts u t, different_size t, different_size u, l, o))));
           }
 
-      pub both_read : ((u : Term) → RowOf ps rs u → Read su r u sv v (Ok tt)) → RowsRead k st q ls rs sv v true
+      pub both_read : ((u : Term) → RowOf ps rs u → Read su r u sv v (Ok tt)) → RowsRead k w ls rs with_two (Ok tt)
       both_read h =
-          let one = h two.1 (row_here k sound n e rs two.1 two.2.right) in
+          let one = h two.1 (row_here k ps e rs two.1 two.2.right) in
           record {
             sound = one.sound;
-            honest = λ es g. honest_carried es su sv (honest_carried es st su g one_read.carried) one.carried;
+            honest = λ es g. honest_carried es su sv (honest_carried es w.store su g one_read.carried) one.carried;
             room = one.room ∙ one_read.room;
             cells = one.roots.long ∙ one_read.roots.long;
-            result = λ t u w fr. (
+            frames = refl;
+            result = λ t u w. (
               omega (arith, one.roots.top, one_top),
               one.roots.inside,
               one.roots.terms 0 (omega (arith, one_top)) ∙ one_held t w.left,
-              subst (λ (i : ℕ). held sv v i ≡ u) one_top (h u (row_here k sound n e rs u w.right)).roots.term,
+              subst (λ (i : ℕ). held sv v i ≡ u) one_top (h u (row_here k ps e rs u w.right)).roots.term,
             );
           }
 
 -- what is compared then
-module _ (b : Book) (st : Store) (q : Roots) (fr : Frames) (w : Working b st) (ls rs : List ℕ) (two : TwoRows b ls rs)
-    (su : Store) (r : Roots) where
-  pub works : {x : Bool} → RowsRead b st q ls rs su r x → Working b su
-  works h = record { book = w.book; down = w.down; sound = h.sound; honest = h.honest (told b).rules w.honest }
+module _ (b : Book) (w : Work) (ok : Working b w.store) (ls rs : List ℕ) (two : TwoRows b ls rs) (v : Work) where
+  pub works : {x : _} → RowsRead b w ls rs v x → Working b v.store
+  works h = record { down = ok.down; honest = h.honest (told b).rules ok.honest }
 
-  module _ (h : RowsRead b st q ls rs su r true) where
-    pub two_here : TwoRoots b su r
+  module _ (h : RowsRead b w ls rs v (Ok tt)) where
+    pub two_here : TwoRoots b v
     two_here =
-        let g = h.result two.0 two.1 two.2 fr in
+        let g = h.result two.0 two.1 two.2 in
         record {
           inside = g.1;
           two = g.0;
@@ -174,40 +164,40 @@ module _ (b : Book) (st : Store) (q : Roots) (fr : Frames) (w : Working b st) (l
           second = subst (Fits (told b).parts) (sym g.3) (over_fits (told b).parts SmallLetter two.1 two.2.right.fits);
         }
 
-    ample_here : (n : ℕ) → Ample n st q fr → Ample n su r fr
+    ample_here : (n : ℕ) → Ample n w → Ample n v
     ample_here n a = record {
       slots = omega (arith, a.slots, h.room);
       cells = omega (arith, a.cells, h.cells);
-      words = a.words;
+      words = omega (arith, a.words, ap (λ (fr : _). length fr.words.now) h.frames);
     }
 
-    module _ (sv : Store) (v : Roots) (gr : Frames) (x : Compared) where
-      pub idle_on : LeftIdle b su r fr sv v gr → LeftIdle b st q fr sv v gr
+    module _ (u : Work) (x : Result Bool NoRoom) where
+      pub idle_on : LeftIdle b v u → LeftIdle b w u
       idle_on i = record {
         working = i.working;
         room = i.room ∙ h.room;
         cells = i.cells ∙ h.cells;
-        words = i.words;
+        words = i.words ∙ ap (λ (fr : _). length fr.words.now) h.frames;
         none = i.none;
       }
 
-      pub compared_on : ((n : ℕ) → Ample n su r fr → Compares b n (held su r 0) (held su r 1) x) →
-          (t u : Term) → RowsOf b ls rs t u → (n : ℕ) → Ample n st q fr → size t ≤ n → size u ≤ n → Compares b n t u x
+      pub compared_on : ((n : ℕ) → Ample n v → Compares b n (root_term v 0) (root_term v 1) x) →
+          (t u : Term) → RowsOf b ls rs t u → (n : ℕ) → Ample n w → size t ≤ n → size u ≤ n → Compares b n t u x
       compared_on f t u o n a l m =
-          let g = h.result t u o fr in
+          let g = h.result t u o in
           subst (λ (y : Term). Compares b n y u x) g.2
-          (subst (λ (y : Term). Compares b n (held su r 0) y x) g.3 (f n (ample_here n a)))
+          (subst (λ (y : Term). Compares b n (root_term v 0) y x) g.3 (f n (ample_here n a)))
 
   -- no room to read them
-  module _ (h : RowsRead b st q ls rs su r false) (s : Roots) (cut : CutTo r 0 s) where
-    pub idle_none : LeftIdle b st q fr su s fr
+  module _ (e : NoRoom) (h : RowsRead b w ls rs v (Err e)) (s : Roots) (cut : CutTo v.roots 0 s) where
+    pub idle_none : LeftIdle b w (record { store = v.store; roots = s; frames = v.frames })
     idle_none = record {
       working = works h;
       room = h.room;
       cells = ap length cut.cells ∙ h.cells;
-      words = refl;
+      words = ap (λ (fr : _). length fr.words.now) h.frames;
       none = cut.top;
     }
 
-    pub compared_none : (t u : Term) → RowsOf b ls rs t u → (n : ℕ) → Ample n st q fr → size t ≤ n → size u ≤ n → Compares b n t u Room
-    compared_none t u o n a l m = absurd (h.result t u o fr n a l m)
+    pub compared_none : (t u : Term) → RowsOf b ls rs t u → (n : ℕ) → Ample n w → size t ≤ n → size u ≤ n → Compares b n t u (Err e)
+    compared_none t u o n a l m = absurd (h.result t u o n a l m)

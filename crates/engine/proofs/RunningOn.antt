@@ -1,5 +1,5 @@
 -- The machine from its start to its end.
-use Rattle.std.proofs.Common.{◌≡◌, ℕ, ◌+◌, ◌-◌, ◌<◌, true, false, List, [], ◌∷◌, length, sym, refl, ap, ◌∙◌, subst, ap₂, arith}
+use Rattle.std.proofs.Common.{◌≡◌, ℕ, ◌+◌, ◌-◌, ◌<◌, List, [], ◌∷◌, length, Ok, Err, sym, refl, ap, ◌∙◌, subst, ap₂, arith}
 use native.Mathlib.Decide.{ℕ_discrete}
 use Rattle.rewriting.specs.Terms.{Term}
 use Rattle.rewriting.specs.Rules.{Eq, Steps, stay, Done}
@@ -13,6 +13,7 @@ use Rattle.rewriting.proofs.Different.{listed_same}
 use Rattle.store.specs.declared.types.Store.{Store}
 use Rattle.store.specs.declared.types.Roots.{Roots}
 use Rattle.store.specs.declared.types.Place.{Place}
+use Rattle.store.proofs.Sounds.{sound_in}
 use Rattle.store.specs.Roots.{root_at}
 use Rattle.store.specs.Stacks.{root_in, StackedOn, CutTo}
 use Rattle.store.specs.Stores.{term_in, held}
@@ -20,140 +21,148 @@ use Rattle.books.specs.declared.row.Book.{Book}
 use Rattle.books.specs.Books.{told}
 use Rattle.engine.specs.declared.types.Frames.{Frames}
 use Rattle.engine.specs.declared.types.Focus.{Focus}
-use Rattle.engine.specs.declared.types.Focus.TheVariants.{Eval}
+use Rattle.engine.specs.declared.types.Focus.TheVariants.{Eval, Back}
 use Rattle.engine.specs.Frames.{Emptied}
 use Rattle.engine.specs.Running.{Framed, frames_of, frames_in, state_in, Asks, AskedFor}
 use Rattle.engine.specs.Turning.{Goes, Ready, KeptBelow, TurnedTo}
 use Rattle.engine.specs.Spacing.{Wanting, few_slots, few_words, few_cells, Halted, WithSpace, Went, Ended}
+use Rattle.engine.specs.declared.types.NoRoom.{NoRoom}
+use Rattle.engine.specs.declared.work.Work.{Work}
 use Rattle.engine.specs.Normal.{Startable, Normalized}
+use Rattle.engine.proofs.Contexts.{work}
 
-pub kept_on : (low : ℕ) (a : Store) (q : Roots) (f : Frames) (b : Store) (r : Roots) (g : Frames) (c : Store) (s : Roots) (h : Frames) →
-    KeptBelow low a q f b r g → KeptBelow low b r g c s h → KeptBelow low a q f c s h
-kept_on low a q f b r g c s h x y = record {
+pub kept_on : (low : ℕ) (a b c : Work) → KeptBelow low a b → KeptBelow low b c → KeptBelow low a c
+kept_on low a b c x y = record {
   room = y.room ∙ x.room;
   cells = y.cells ∙ x.cells;
   words = y.words ∙ x.words;
   terms = λ k l. y.terms k l ∙ x.terms k l;
 }
 
-wanting_kept : (low : ℕ) (a : Store) (q : Roots) (f : Frames) (b : Store) (r : Roots) (g : Frames) (u : Term) → KeptBelow low a q f b r g →
-    Wanting b.room (length g.words.now) (length r.cells.now) low (λ k. held b r k) u →
-    Wanting a.room (length f.words.now) (length q.cells.now) low (λ k. held a q k) u
-wanting_kept low a q f b r g u k (few_slots l) =
-    few_slots (subst (λ (ts : List Term). a.room < different (u ∷ ts) + 33)
-    (listed_same (λ i. held b r i) (λ i. held a q i) low k.terms)
-    (subst (λ (n : ℕ). n < different (u ∷ listed (λ i. held b r i) low) + 33) k.room l))
-wanting_kept low a q f b r g u k (few_words l) = few_words (omega (arith, k.words, l))
-wanting_kept low a q f b r g u k (few_cells l) = few_cells (omega (arith, k.cells, l))
+wanting_kept : (low : ℕ) (a b : Work) (u : Term) → KeptBelow low a b →
+    Wanting b.store.room (length b.frames.words.now) (length b.roots.cells.now) low (λ k. held b.store b.roots k) u →
+    Wanting a.store.room (length a.frames.words.now) (length a.roots.cells.now) low (λ k. held a.store a.roots k) u
+wanting_kept low a b u k (few_slots l) =
+    few_slots (subst (λ (ts : List Term). a.store.room < different (u ∷ ts) + 33)
+    (listed_same (λ i. held b.store b.roots i) (λ i. held a.store a.roots i) low k.terms)
+    (subst (λ (n : ℕ). n < different (u ∷ listed (λ i. held b.store b.roots i) low) + 33) k.room l))
+wanting_kept low a b u k (few_words l) = few_words (omega (arith, k.words, l))
+wanting_kept low a b u k (few_cells l) = few_cells (omega (arith, k.cells, l))
 
 module _ (b : Book) (low : ℕ) where
   abbrev rs : List Eq
   rs = (told b).rules
 
-  ready_on : (st : Store) (q : Roots) (fr : Frames) (c : Focus) (su : Store) (r : Roots) (gr : Frames) (e : Focus) →
-      Ready b low st q fr c → WithSpace rs low st q fr c su r gr e → Ready b low su r gr e
-  ready_on st q fr c su r gr e ready w = record {
-    book = ready.book;
+  ready_on : (w : Work) (c : Focus) (v : Work) (e : Focus) → Ready b low w c → WithSpace rs low w c v e → Ready b low v e
+  ready_on w c v e ready s = record {
     down = ready.down;
-    running = w.running;
-    valid = subst (Valid (told b)) (sym w.same) ready.valid;
+    running = s.running;
+    valid = subst (Valid (told b)) (sym s.same) ready.valid;
   }
 
   -- a turn after space was made
-  pub went : (st : Store) (q : Roots) (fr : Frames) (c : Focus) (su : Store) (r : Roots) (gr : Frames) (e : Focus)
-      (sv : Store) (s : Roots) (hr : Frames) (x : Focus) → Ready b low st q fr c → WithSpace rs low st q fr c su r gr e →
-      (Ready b low su r gr e → TurnedTo rs low su r gr e sv s hr x) → Went b low st q fr c sv s hr x
-  went st q fr c su r gr e sv s hr x ready w turn =
-      let now1 = ready_on st q fr c su r gr e ready w in
+  pub went : (w : Work) (c : Focus) (v : Work) (e : Focus) (u : Work) (x : Focus) → Ready b low w c → WithSpace rs low w c v e →
+      (Ready b low v e → TurnedTo rs low v e u x) → Went b low w c u x
+  went w c v e u x ready s turn =
+      let now1 = ready_on w c v e ready s in
       let t = turn now1 in
       record {
         ready = record {
-          book = ready.book;
           down = ready.down;
           running = t.running;
-          valid = moves_valid (told b) ready.book.reads.fine ready.down (move t.goes.1 t.goes.2) now1.valid;
+          valid = moves_valid (told b) b.reads.fine ready.down (move t.goes.1 t.goes.2) now1.valid;
         };
-        goes = subst (λ (y : State). Goes rs y (state_in sv s hr x)) w.same t.goes;
-        kept = kept_on low st q fr su r gr sv s hr w.kept t.kept;
+        goes = subst (λ (y : State). Goes rs y (state_in u x)) s.same t.goes;
+        kept = kept_on low w v u s.kept t.kept;
       }
 
-  -- so far, from a first state of the whole t
-  pub record Underway (st : Store) (q : Roots) (fr : Frames) (t : Term) (su : Store) (r : Roots) (gr : Frames) (e : Focus) : Type 0 where
-    pub ready : Ready b low su r gr e
-    pub steps : Steps rs t (whole (state_in su r gr e))
-    pub kept : KeptBelow low st q fr su r gr
+  -- no frame is left
+  pub ended : (w : Work) (c : Focus) (v : Work) (p : Place) → Ready b low w c → WithSpace rs low w c v (Back p) →
+      v.frames.depth ≡ 0 → Ended b low w c v p
+  ended w c v p ready s d = record { ready = ready_on w c v (Back p) ready s; same = s.same; depth = d; kept = s.kept }
 
-  pub under_way : (st : Store) (q : Roots) (fr : Frames) (c : Focus) → Ready b low st q fr c →
-      Underway st q fr (whole (state_in st q fr c)) st q fr c
-  under_way st q fr c ready = record {
+  -- so far, from a first state of the whole t
+  pub record Underway (w : Work) (t : Term) (v : Work) (e : Focus) : Type 0 where
+    pub ready : Ready b low v e
+    pub steps : Steps rs t (whole (state_in v e))
+    pub kept : KeptBelow low w v
+
+  pub under_way : (w : Work) (c : Focus) → Ready b low w c → Underway w (whole (state_in w c)) w c
+  under_way w c ready = record {
     ready = ready;
     steps = stay;
     kept = record { room = refl; cells = refl; words = refl; terms = λ k l. refl };
   }
 
-  module _ (st : Store) (q : Roots) (fr : Frames) (t : Term) (su : Store) (r : Roots) (gr : Frames) (e : Focus)
-      (u : Underway st q fr t su r gr e) (sv : Store) (s : Roots) (hr : Frames) where
-    pub further : (x : Focus) → Went b low su r gr e sv s hr x → Underway st q fr t sv s hr x
-    further x w = record {
-      ready = w.ready;
-      steps = trans u.steps (moves_steps (move w.goes.1 w.goes.2));
-      kept = kept_on low st q fr su r gr sv s hr u.kept w.kept;
+  module _ (w : Work) (t : Term) (v : Work) (e : Focus) (u : Underway w t v e) (z : Work) where
+    pub further : (x : Focus) → Went b low v e z x → Underway w t z x
+    further x s = record {
+      ready = s.ready;
+      steps = trans u.steps (moves_steps (move s.goes.1 s.goes.2));
+      kept = kept_on low w v z u.kept s.kept;
     }
 
-    pub falls : (x : Focus) → Went b low su r gr e sv s hr x →
-        cost (told b) (state_in sv s hr x) < cost (told b) (state_in su r gr e)
-    falls x w =
-        let fine = u.ready.book.reads.fine in
+    pub falls : (x : Focus) → Went b low v e z x → cost (told b) (state_in z x) < cost (told b) (state_in v e)
+    falls x s =
+        let fine = b.reads.fine in
         let down = u.ready.down in
-        let y = w.goes.0 in
+        let y = s.goes.0 in
         omega (
           arith,
-          cost_falls (told b) fine down (state_in su r gr e) y u.ready.valid.fits w.goes.1,
-          moves_fall (told b) fine down w.goes.2 (move_fits (told b) fine down w.goes.1 u.ready.valid.fits),
+          cost_falls (told b) fine down (state_in v e) y u.ready.valid.fits s.goes.1,
+          moves_fall (told b) fine down s.goes.2 (move_fits (told b) fine down s.goes.1 u.ready.valid.fits),
         )
 
-    pub last_state : (v : Place) → Ended b low su r gr e sv s hr v →
-        Steps rs t (term_in sv v.0) × Done rs (term_in sv v.0) × (s.top ≡ low)
-    last_state v d =
-        let g : ℕ → Term = λ k. held sv s k in
-        let none : frames_in sv s hr ≡ [] = ap (λ (n : ℕ). frames_of g hr.words.now n s.top) d.depth in
-        let is : whole (state_in su r gr e) ≡ term_in sv v.0 =
-        ap whole (sym d.same) ∙ ap (λ (ks : List ModelFrame). whole (state ks (back (term_in sv v.0)))) none in (
+    pub last_state : (p : Place) → Ended b low v e z p →
+        Steps rs t (term_in z.store p.0) × Done rs (term_in z.store p.0) × (z.roots.top ≡ low)
+    last_state p d =
+        let tp = term_in z.store p.0 in
+        let none : frames_in z ≡ [] =
+        ap (λ (n : ℕ). frames_of (λ k. held z.store z.roots k) z.frames.words.now n z.roots.top) d.depth in
+        let is : whole (state_in v e) ≡ tp =
+        ap whole (sym d.same) ∙ ap (λ (ks : List ModelFrame). whole (state ks (back tp))) none in (
           subst (Steps rs t) is u.steps,
           d.ready.valid.focus_done,
-          subst (λ (n : ℕ). Framed hr.words.now n s.top low) d.depth d.ready.running.framed,
+          subst (λ (n : ℕ). Framed z.frames.words.now n z.roots.top low) d.depth d.ready.running.framed,
         )
 
 -- from a start to an end
-module _ (b : Book) (st : Store) (q0 : Roots) (fr0 : Frames) (can : Startable b st q0) (q : Roots) (cut : CutTo q0 (q0.top - 1) q)
-    (fr : Frames) (none : Emptied fr0 fr) (p : Place) (at : p.0 ≡ root_in q0 (q0.top - 1)) where
+module _ (b : Book) (w0 : Work) (can : Startable b w0) (q : Roots) (cut : CutTo w0.roots (w0.roots.top - 1) q)
+    (fr : Frames) (none : Emptied w0.frames fr) (p : Place) (at : p.0 ≡ root_in w0.roots (w0.roots.top - 1)) where
+  abbrev st : Store
+  st = w0.store
+
+  abbrev q0 : Roots
+  q0 = w0.roots
+
+  abbrev fr0 : Frames
+  fr0 = w0.frames
+
   abbrev low : ℕ
   low = q0.top - 1
 
   abbrev t : Term
   t = held st q0 (q0.top - 1)
 
-  no_frames : frames_in st q fr ≡ []
+  no_frames : frames_in (work st q fr) ≡ []
   no_frames = ap (λ (n : ℕ). frames_of (λ k. held st q k) fr.words.now n q.top) none.depth
 
   term_is : term_in st p.0 ≡ t
   term_is = ap (term_in st) at
 
-  first_state : state_in st q fr (Eval p) ≡ state [] (eval t)
+  first_state : state_in (work st q fr) (Eval p) ≡ state [] (eval t)
   first_state = ap₂ (λ (ks : List ModelFrame) (u : Term). state ks (eval u)) no_frames term_is
 
-  pub first_whole : whole (state_in st q fr (Eval p)) ≡ t
+  pub first_whole : whole (state_in (work st q fr) (Eval p)) ≡ t
   first_whole = ap whole first_state
 
   root_same : (k : ℕ) → root_in q k ≡ root_in q0 k
   root_same k = ap (λ (cs : List ℕ). root_at cs k) cut.cells
 
-  pub first_ready : Ready b low st q fr (Eval p)
+  pub first_ready : Ready b low (work st q fr) (Eval p)
   first_ready = record {
-    book = can.book;
     down = can.down;
     running = record {
-      sound = can.sound;
       honest = can.honest;
       inside = record {
         fits = omega (arith, ap length cut.cells, cut.top, can.inside.fits);
@@ -168,19 +177,24 @@ module _ (b : Book) (st : Store) (q0 : Roots) (fr0 : Frames) (can : Startable b 
     valid = subst (Valid (told b)) (sym first_state) (start_valid (told b) t can.fits);
   }
 
-  module _ (su : Store) (r : Roots) (gr : Frames) (e : Focus)
-      (u0 : Underway b low st q fr (whole (state_in st q fr (Eval p))) su r gr e) (sv : Store) (s : Roots) (hr : Frames) where
-    kept_all : KeptBelow low su r gr sv s hr → KeptBelow low st q fr sv s hr
-    kept_all k = kept_on low st q fr su r gr sv s hr u0.kept k
+  abbrev first : Work
+  first = work st q fr
 
-    pub normal : (v : Place) → Ended b low su r gr e sv s hr v → (o : Roots) → StackedOn s low v.0 o →
-        Normalized b st q0 fr0 sv o hr true
-    normal v d o on =
-        let (steps, done, top) = last_state b low st q fr (whole (state_in st q fr (Eval p))) su r gr e u0 sv s hr v d in
+  abbrev t0 : Term
+  t0 = whole (state_in first (Eval p))
+
+  module _ (v : Work) (e : Focus) (u0 : Underway b low first t0 v e) (z : Work) where
+    kept_all : KeptBelow low v z → KeptBelow low first z
+    kept_all k = kept_on low first v z u0.kept k
+
+    pub normal : (x : Place) → Ended b low v e z x → (o : Roots) → StackedOn z.roots low x.0 o →
+        Normalized b w0 (work z.store o z.frames) (Ok tt)
+    normal x d o on =
+        let (steps, done, top) = last_state b low first t0 v e u0 z x d in
         let k = kept_all d.kept in
-        let is : held sv o low ≡ term_in sv v.0 = ap (term_in sv) on.is in
+        let is : held z.store o low ≡ term_in z.store x.0 = ap (term_in z.store) on.is in
         record {
-          sound = d.ready.running.sound;
+          sound = sound_in z.store;
           honest = d.ready.running.honest;
           inside = record {
             fits = omega (arith, on.long, on.top, k.cells, ap length cut.cells, can.inside.fits, can.some);
@@ -189,27 +203,28 @@ module _ (b : Book) (st : Store) (q0 : Roots) (fr0 : Frames) (can : Startable b 
           room = k.room;
           cells = on.long ∙ k.cells ∙ ap length cut.cells;
           words = k.words ∙ ap length none.words;
-          terms = λ j l. ap (term_in sv) (on.rest j (λ z. omega arith)) ∙ k.terms j l ∙ ap (term_in st) (root_same j);
+          terms = λ j l. ap (term_in z.store) (on.rest j (λ y. omega arith)) ∙ k.terms j l ∙ ap (term_in st) (root_same j);
           result = (
             omega (arith, on.top, can.some),
-            subst (λ (x : Term). Steps (told b).rules x (held sv o low)) first_whole
-                (subst (Steps (told b).rules (whole (state_in st q fr (Eval p)))) (sym is) steps),
+            subst (λ (y : Term). Steps (told b).rules y (held z.store o low)) first_whole
+                (subst (Steps (told b).rules t0) (sym is) steps),
             subst (Done (told b).rules) (sym is) done,
           );
         }
       where
-        inside_low : (j : ℕ) → j < low + 1 → Dec (j ≡ low) → root_in o j < sv.count
-        inside_low j l (yes z) = omega (arith, ap (λ (i : ℕ). root_in o i) z, on.is, d.ready.running.focus)
-        inside_low j l (no z) =
-            let h = last_state b low st q fr (whole (state_in st q fr (Eval p))) su r gr e u0 sv s hr v d in
-            omega (arith, on.rest j z, d.ready.running.inside.low j (omega (arith, h.2)))
+        inside_low : (j : ℕ) → j < low + 1 → Dec (j ≡ low) → root_in o j < z.store.count
+        inside_low j l (yes y) = omega (arith, ap (λ (i : ℕ). root_in o i) y, on.is, d.ready.running.focus)
+        inside_low j l (no y) =
+            let h = last_state b low first t0 v e u0 z x d in
+            omega (arith, on.rest j y, d.ready.running.inside.low j (omega (arith, h.2)))
 
-    pub stopped : Halted (told b).rules low su r gr (whole (state_in su r gr e)) sv s hr → (o : Roots) → CutTo s low o →
-        Normalized b st q0 fr0 sv o hr false
-    stopped d o c =
+    pub stopped : Halted (told b).rules low v (whole (state_in v e)) z → (o : Roots) → CutTo z.roots low o → (x : NoRoom) →
+        Normalized b w0 (work z.store o z.frames) (Err x)
+    stopped d o c x =
         let k = kept_all d.kept in
-        let same : (j : ℕ) → root_in o j ≡ root_in s j = λ j. ap (λ (cs : List ℕ). root_at cs j) c.cells in
-        let w = wanting_kept low st q fr su r gr (whole (state_in su r gr e)) u0.kept d.wanting in
+        let same : (j : ℕ) → root_in o j ≡ root_in z.roots j = λ j. ap (λ (cs : List ℕ). root_at cs j) c.cells in
+        let u = whole (state_in v e) in
+        let lack = wanting_kept low first v u u0.kept d.wanting in
         record {
           sound = d.sound;
           honest = d.honest;
@@ -220,16 +235,14 @@ module _ (b : Book) (st : Store) (q0 : Roots) (fr0 : Frames) (can : Startable b 
           room = k.room;
           cells = ap length c.cells ∙ k.cells ∙ ap length cut.cells;
           words = k.words ∙ ap length none.words;
-          terms = λ j l. ap (term_in sv) (same j) ∙ k.terms j l ∙ ap (term_in st) (root_same j);
+          terms = λ j l. ap (term_in z.store) (same j) ∙ k.terms j l ∙ ap (term_in st) (root_same j);
           result = (
             c.top,
             (
-              whole (state_in su r gr e),
-              subst (λ (x : Term). Steps (told b).rules x (whole (state_in su r gr e))) first_whole u0.steps,
-              subst (λ (cs : List ℕ). Wanting st.room (length fr0.words.now) (length cs) low (λ j. term_in st (root_at cs j))
-                  (whole (state_in su r gr e))) cut.cells
-                  (subst (λ (ws : List ℕ). Wanting st.room (length ws) (length q.cells.now) low (λ j. held st q j)
-                  (whole (state_in su r gr e))) none.words w),
+              u,
+              subst (λ (y : Term). Steps (told b).rules y u) first_whole u0.steps,
+              subst (λ (cs : List ℕ). Wanting st.room (length fr0.words.now) (length cs) low (λ j. term_in st (root_at cs j)) u) cut.cells
+                  (subst (λ (ws : List ℕ). Wanting st.room (length ws) (length q.cells.now) low (λ j. held st q j) u) none.words lack),
             ),
           );
         }

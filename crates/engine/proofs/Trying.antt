@@ -1,6 +1,5 @@
 -- Rules tried at the top of a term: where the top sign of a left side stands, and what the rules that failed say together.
-use Rattle.std.proofs.Common.{◌≡◌, ℕ, ◌+◌, ◌<◌, ◌≤◌, List, ◌∷◌, ◌++◌, length, get_or, drop, sym, refl, ap, ◌∙◌, subst, arith, length-drop}
-use Rattle.std.proofs.Common.{get_or-drop}
+use Rattle.std.proofs.Common.{◌≡◌, ℕ, ◌<◌, ◌≤◌, List, ◌∷◌, length, get_or, sym, refl, ap, ◌∙◌, subst, arith}
 use Rattle.rewriting.specs.Terms.{Term, letter, sign, Terms, put, puts, SmallLetter, Fits}
 use Rattle.rewriting.specs.Rules.{Eq}
 use Rattle.rewriting.specs.Order.{Rank, rank, Greater, by_part, by_sign, by_order}
@@ -14,10 +13,9 @@ use Rattle.store.specs.declared.types.Place.{Place}
 use Rattle.store.specs.Stores.{term_in}
 use Rattle.books.specs.declared.row.Book.{Book}
 use Rattle.engine.specs.declared.types.Bindings.{Bindings}
-use Rattle.books.specs.Reading.{TermAt}
-use Rattle.books.specs.Books.{told, blank, rule_in, RuleAt, SoundBook}
+use Rattle.books.specs.Books.{told, blank, rule_in, sound_book_in}
 use Rattle.engine.specs.Matching.{put_in, Instance, Pattern}
-use Rattle.engine.specs.Building.{AllBound, Fillable, InstanceBuilt}
+use Rattle.engine.specs.Building.{AllBound, Fillable, RowInstanceBuilt}
 use Rattle.engine.specs.Rewriting.{Rewritable, TopSign, ByRule}
 use Rattle.books.proofs.Bookish.{is_rule, rule_sides}
 
@@ -27,33 +25,24 @@ greater_sign (by_part {f = f} {ts = ts} h) = (f, ts, refl)
 greater_sign (by_sign {f = f} {ts = ts} l h) = (f, ts, refl)
 greater_sign (by_order {f = f} {ts = ts} o h) = (f, ts, refl)
 
-first_words : (ws : List ℕ) (a x y : ℕ) (zs : List ℕ) → drop a ws ≡ x ∷ y ∷ zs →
-    (a + 2 ≤ length ws) × (get_or ws a 0 ≡ x) × (get_or ws (a + 1) 0 ≡ y)
-first_words ws a x y zs e =
-    let z : a + 0 ≡ a = omega arith in (
-      omega (arith, ap length e, length-drop a ws),
-      ap (λ (k : ℕ). get_or ws k 0) (sym z) ∙ (sym (get_or-drop a ws 0 0) ∙ ap (λ (v : List ℕ). get_or v 0 0) e),
-      sym (get_or-drop a ws 1 0) ∙ ap (λ (v : List ℕ). get_or v 1 0) e,
-    )
-
--- a place of the words that says the top sign of the left side l
-pub record SignTold (ws : List ℕ) (a : ℕ) (l : Term) : Type 0 where
+-- the words are a row that says the top sign of the left side l
+pub record SignTold (ws : List ℕ) (l : Term) : Type 0 where
   pub parts : Terms
-  pub within : a + 2 ≤ length ws
-  pub is : l ≡ sign (get_or ws (a + 1) 0) parts
+  pub within : 2 ≤ length ws
+  pub is : l ≡ sign (get_or ws 1 0) parts
 
 -- a rule's sides in the words: the left one is a pattern, and the right one can be built from its row
-module _ (k : Book) (sound : SoundBook k) (i : ℕ) (low : i < length (told k).rules) where
-  pub left_pattern : (a z : ℕ) (st : Store) (p : Place) → TermAt k.words.now a z (rule_in k i).left →
-      Fits (told k).parts (term_in st p.0) → Pattern (told k).parts k.words.now a z (rule_in k i).left st p
-  left_pattern a z st p w f =
-      let sides = rule_sides k sound i low in
-      record { over = sides.left; at = w; short = sides.left_size; fits = f }
+module _ (k : Book) (i : ℕ) (low : i < length (told k).rules) where
+  pub left_pattern : (ws : List ℕ) (st : Store) (p : Place) → ws ≡ row (rule_in k i).left →
+      Fits (told k).parts (term_in st p.0) → Pattern (told k).parts ws (rule_in k i).left st p
+  left_pattern ws st p w f =
+      let sides = rule_sides k (sound_book_in k) i low in
+      record { over = sides.left; written = w; short = sides.left_size; fits = f }
 
   pub right_fillable : (ps ws : List ℕ) (b : Bindings) → ps ≡ (told k).parts → ws ≡ row (rule_in k i).right →
       AllBound b (rule_in k i).right → Fillable ps ws b (rule_in k i).right
   right_fillable ps ws b e w m =
-      let sides = rule_sides k sound i low in
+      let sides = rule_sides k (sound_book_in k) i low in
       record {
         row = record {
           written = sym w;
@@ -68,22 +57,24 @@ module _ (k : Book) (sound : SoundBook k) (i : ℕ) (low : i < length (told k).r
 module _ (k : Book) (st : Store) (p : Place) (can : Rewritable k st p) where
   module _ (i : ℕ) (low : i < length (told k).rules) where
     goes_down : Greater (rank (told k).ranks) (rule_in k i).left (rule_in k i).right
-    goes_down = can.down i (rule_in k i) (is_rule k can.book i low)
+    goes_down = can.down i (rule_in k i) (is_rule k (sound_book_in k) i low)
 
-    pub sign_told : (a m z : ℕ) → RuleAt k i a m z → SignTold k.words.now a (rule_in k i).left
-    sign_told a m z r =
-        let ws = k.words.now in
+    pub sign_told : (ws : List ℕ) → ws ≡ row (rule_in k i).left → SignTold ws (rule_in k i).left
+    sign_told ws r =
         let (g, ts, e) = greater_sign goes_down in
-        let w : drop a ws ≡ 1 ∷ g ∷ (rows ts ++ drop m ws) = r.left.written ∙ ap (λ (t : Term). row t ++ drop m ws) e in
-        let h = first_words ws a 1 g (rows ts ++ drop m ws) w in
-        record { parts = ts; within = h.0; is = e ∙ ap (λ (f : ℕ). sign f ts) (sym h.2) }
+        let w : ws ≡ 1 ∷ g ∷ rows ts = r ∙ ap row e in
+        record {
+          parts = ts;
+          within = omega (arith, ap length w);
+          is = e ∙ ap (λ (f : ℕ). sign f ts) (sym (ap (λ (vs : List ℕ). get_or vs 1 0) w));
+        }
 
     -- with another sign at the top it does not match
-    pub other_sign : (a m z f : ℕ) → RuleAt k i a m z → (get_or k.words.now (a + 1) 0 ≡ f → ⊥) → TopSign st p f →
+    pub other_sign : (ws : List ℕ) (f : ℕ) → ws ≡ row (rule_in k i).left → (get_or ws 1 0 ≡ f → ⊥) → TopSign st p f →
         (s : ℕ → Term) → put s (rule_in k i).left ≡ term_in st p.0 → ⊥
-    other_sign a m z f r n (us, e) s d =
-        let h = sign_told a m z r in
-        let x : sign (get_or k.words.now (a + 1) 0) (puts s h.parts) ≡ sign f us = sym (ap (put s) h.is) ∙ d ∙ e in
+    other_sign ws f r n (us, e) s d =
+        let h = sign_told ws r in
+        let x : sign (get_or ws 1 0) (puts s h.parts) ≡ sign f us = sym (ap (put s) h.is) ∙ d ∙ e in
         n (cc)
 
     pub no_letter : (x : ℕ) → term_in st p.0 ≡ letter x → (s : ℕ → Term) → put s (rule_in k i).left ≡ term_in st p.0 → ⊥
@@ -98,12 +89,12 @@ module _ (k : Book) (st : Store) (p : Place) (can : Rewritable k st p) where
     right_bound b m x h = m.letters x (greater_letters (rank (told k).ranks) goes_down x h)
 
     pub by_this_rule : (b : Bindings) (su : Store) (q : Place) → Instance st b (rule_in k i).left (term_in st p.0) →
-        InstanceBuilt st b (rule_in k i).right su q → ByRule (told k).rules (term_in st p.0) su q
+        RowInstanceBuilt st b (rule_in k i).right su q → ByRule (told k).rules (term_in st p.0) su q
     by_this_rule b su q m h = record {
       index = i;
       rule = rule_in k i;
       filling = put_in st b;
-      has = is_rule k can.book i low;
+      has = is_rule k (sound_book_in k) i low;
       left = m.is;
       right = h.is;
       inside = h.inside;

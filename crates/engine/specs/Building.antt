@@ -1,6 +1,8 @@
 -- Building instances of terms from their rows, from the last symbol to the first.
 use Rattle.std.specs.Prelude.{◌≡◌, ℕ, ◌+◌, ◌-◌, ◌<◌, ◌≤◌, List, length, get_or, ◌≢◌, slice_index, slice_index_or, slice_set}
 use Rattle.rewriting.specs.Terms.{Term, letter as letter1, sign as sign1, Terms, and1, glue, count, size, put, In}
+use Rattle.books.specs.declared.words.Symbol.{Symbol}
+use Rattle.books.specs.declared.words.Symbol.TheVariants.{Letter, Sign}
 use Rattle.store.specs.declared.types.Store.{Store}
 use Rattle.store.specs.declared.types.Place.{Place}
 use Rattle.store.specs.Stores.{Sound, Grown, term_in}
@@ -39,28 +41,36 @@ pub record PartsBuilt (ps : List ℕ) (f : ℕ) (q : Built) : Type 0 where
   pub enough : get_or ps f 0 ≤ q.len
   pub space : q.len < 32 + slice_index ps f
 
--- the symbol of two words can be built
-pub record Buildable (ps : List ℕ) (tag num : ℕ) (b : Bindings) (st : Store) (q : Built) : Type 0 where
+-- what the symbol wants: a letter is bound, and a sign has its parts
+abbrev pub Wants : List ℕ → Symbol → Bindings → Built → Type 0
+Wants ps (Letter x) b q = (q.len < 32) × (x < 32) × Bound b x
+Wants ps (Sign f) b q = PartsBuilt ps f q
+
+-- the symbol y can be built
+pub record Buildable (ps : List ℕ) (y : Symbol) (b : Bindings) (st : Store) (q : Built) : Type 0 where
   pub short : q.len ≤ 32
   pub inside : PlacesInside st q.places q.len
   pub bound_inside : AllInside st b
-  pub letter : tag ≡ 0 → (q.len < 32) × (num < 32) × Bound b num
-  pub sign : (tag ≢ 0) → PartsBuilt ps num q
+  pub symbol : Wants ps y b q
 
 -- no slot that is new holds a letter
 abbrev pub SignsAdded : Store → Store → Type 0
 SignsAdded st su = (i x : ℕ) → st.count ≤ i → i < su.count → term_in su i ≢ letter1 x
 
--- it is built: what is put for a letter, or a sign with the next terms as parts
-pub record SymbolBuilt (ps : List ℕ) (tag num : ℕ) (b : Bindings) (st : Store) (q : Built) (su : Store) (r : Built) : Type 0 where
+-- one more term: what is put for a letter, or a sign with the next terms as parts
+abbrev pub TermMade : List ℕ → Symbol → Bindings → Store → Built → Store → Built → Type 0
+TermMade ps (Letter x) b st q su r = stacked su r.places r.len ≡ and1 (put_in st b x) (stacked st q.places q.len)
+TermMade ps (Sign f) b st q su r = (vs us : Terms) → count vs ≡ slice_index ps f →
+    stacked st q.places q.len ≡ glue vs us → stacked su r.places r.len ≡ and1 (sign1 f vs) us
+
+-- the symbol y is built
+pub record SymbolBuilt (ps : List ℕ) (y : Symbol) (b : Bindings) (st : Store) (q : Built) (su : Store) (r : Built) : Type 0 where
   pub sound : Sound su
   pub grown : Grown st su
   pub few : su.count ≤ st.count + 1
   pub signs : SignsAdded st su
   pub inside : PlacesInside su r.places r.len
-  pub letter : tag ≡ 0 → stacked su r.places r.len ≡ and1 (put_in st b num) (stacked st q.places q.len)
-  pub sign : (tag ≢ 0) → (vs us : Terms) → count vs ≡ slice_index ps num →
-      stacked st q.places q.len ≡ glue vs us → stacked su r.places r.len ≡ and1 (sign1 num vs) us
+  pub made : TermMade ps y b st q su r
 
 -- the place of a term that is built from its row, with what is bound put for its letters
 pub record RowInstanceBuilt (st : Store) (b : Bindings) (t : Term) (su : Store) (p : Place) : Type 0 where
@@ -68,13 +78,5 @@ pub record RowInstanceBuilt (st : Store) (b : Bindings) (t : Term) (su : Store) 
   pub grown : Grown st su
   pub few : su.count ≤ st.count + size t
   pub signs : SignsAdded st su
-  pub inside : p.0 < su.count
-  pub is : term_in su p.0 ≡ put (put_in st b) t
-
--- the place of a term with what is bound put for its letters
-pub record InstanceBuilt (st : Store) (b : Bindings) (t : Term) (su : Store) (p : Place) : Type 0 where
-  pub sound : Sound su
-  pub grown : Grown st su
-  pub few : su.count ≤ st.count + 32
   pub inside : p.0 < su.count
   pub is : term_in su p.0 ≡ put (put_in st b) t

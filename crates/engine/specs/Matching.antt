@@ -1,10 +1,9 @@
 -- Matching: what bindings say, and what is still to be matched.
-use Rattle.std.specs.Prelude.{◌≡◌, ℕ, zero, suc, ◌+◌, ◌*◌, ◌<◌, ◌≤◌, Bool, true, false, ◌⊎◌, List, ◌++◌, length, get_or, drop, Some, None}
+use Rattle.std.specs.Prelude.{◌≡◌, ℕ, zero, suc, ◌+◌, ◌*◌, ◌<◌, ◌≤◌, Bool, true, false, ◌⊎◌, List, length, get_or, drop, replicate, Some, None}
 use Rattle.std.specs.Prelude.{Option as Maybe, ◌≢◌, slice_index_or, slice_set}
 use Rattle.rewriting.specs.Terms.{Term, letter, sign, Terms, none1, and1, glue, count, size, sizes, put, puts, In, Ins}
 use Rattle.rewriting.specs.Terms.{Over, AllOver, SmallLetter, AnyLetter}
-use Rattle.books.specs.Rows.{rows}
-use Rattle.books.specs.Reading.{TermAt}
+use Rattle.books.specs.Rows.{row, rows}
 use Rattle.store.specs.declared.types.Store.{Store}
 use Rattle.store.specs.declared.types.Place.{Place}
 use Rattle.store.specs.Stores.{term_in}
@@ -41,10 +40,9 @@ pub record Instance (st : Store) (b : Bindings) (l : Term) (t : Term) : Type 0 w
   pub letters : (x : ℕ) → In x l → Bound b x
   pub inside : AllInside st b
 
--- it is such an instance, or of no replacement
-abbrev pub Matched : Store → Bindings → Term → Term → Bool → Type 0
-Matched st b l t true = Instance st b l t
-Matched st b l t false = (s : ℕ → Term) → put s l ≢ t
+-- no letter is bound
+abbrev pub nothing : Bindings
+nothing = record { at = replicate 32 None }
 
 -- the bindings c say what b says and that l becomes the term t, and no more; they have the letters of both
 pub record Extended (st : Store) (b : Bindings) (l t : Term) (c : Bindings) : Type 0 where
@@ -55,19 +53,19 @@ pub record Extended (st : Store) (b : Bindings) (l t : Term) (c : Bindings) : Ty
   pub inside : AllInside st c
 
 -- that, or nothing that is put for letters as b says makes l the term t
-abbrev pub MatchedOn : Store → Bindings → Term → Term → Bindings → Bool → Type 0
-MatchedOn st b l t c true = Extended st b l t c
-MatchedOn st b l t c false = (s : ℕ → Term) → Agrees st b s → put s l ≢ t
+abbrev pub MatchedOn : Store → Bindings → Term → Term → Maybe Bindings → Type 0
+MatchedOn st b l t (Some c) = Extended st b l t c
+MatchedOn st b l t None = (s : ℕ → Term) → Agrees st b s → put s l ≢ t
 
--- the pattern l stands in the words from one place up to another, and the term at a place is over its signature
-pub record Pattern (ps ws : List ℕ) (a z : ℕ) (l : Term) (st : Store) (p : Place) : Type 0 where
+-- the words are the row of the pattern l, and the term at a place is over its signature
+pub record Pattern (ps ws : List ℕ) (l : Term) (st : Store) (p : Place) : Type 0 where
   pub over : Over SmallLetter ps l
-  pub at : TermAt ws a z l
+  pub written : ws ≡ row l
   pub short : size l ≤ 32
   pub fits : Over AnyLetter ps (term_in st p.0)
 
-abbrev pub SomePattern : List ℕ → ℕ → ℕ → Store → Place → Type 0
-SomePattern ws a z st p = (ps : List ℕ) × (l : Term) × Pattern ps ws a z l st p
+abbrev pub SomePattern : List ℕ → Store → Place → Type 0
+SomePattern ws st p = (ps : List ℕ) × (l : Term) × Pattern ps ws l st p
 
 -- letter x is bound to q, and was before or nothing was; or it was bound to another place
 abbrev pub BoundNow : Bindings → ℕ → Place → Bindings → Bool → Type 0
@@ -108,11 +106,11 @@ PartsPending st p f q r false = (us : Terms) → term_in st p.0 ≢ sign f us
 -- where matching the pattern l with the term t has come to, from the bindings b0 on: the words from place a on are these patterns,
 -- for which the pending terms are wanted; what is put for letters as b0 says makes l the term t exactly if it is as the bindings say
 -- and makes the patterns these terms
-pub record MatchingWith (ps ws : List ℕ) (to : ℕ) (b0 : Bindings) (l t : Term) (st : Store) (a : ℕ) (q : Pending) (b : Bindings)
+pub record MatchingWith (ps ws : List ℕ) (b0 : Bindings) (l t : Term) (st : Store) (a : ℕ) (q : Pending) (b : Bindings)
     (us : Terms) : Type 0 where
   pub over : AllOver SmallLetter ps us
-  pub written : drop a ws ≡ rows us ++ drop to ws
-  pub long : a + 2 * sizes us ≡ to
+  pub written : drop a ws ≡ rows us
+  pub long : a + 2 * sizes us ≡ length ws
   pub counted : count us ≡ q.len
   pub inside : PlacesInside st q.places q.len
   pub fit : AllOver AnyLetter ps (stacked st q.places q.len)
@@ -122,20 +120,19 @@ pub record MatchingWith (ps ws : List ℕ) (to : ℕ) (b0 : Bindings) (l t : Ter
   pub needed : (s : ℕ → Term) → Agrees st b0 s → put s l ≡ t → Agrees st b s × (puts s us ≡ stacked st q.places q.len)
   pub letters : (x : ℕ) → Bound b0 x ⊎ In x l → Bound b x ⊎ Ins x us
 
-abbrev pub Matching : List ℕ → List ℕ → ℕ → Bindings → Term → Term → Store → ℕ → Pending → Bindings → Type 0
-Matching ps ws to b0 l t st a q b = (us : Terms) × MatchingWith ps ws to b0 l t st a q b us
+abbrev pub Matching : List ℕ → List ℕ → Bindings → Term → Term → Store → ℕ → Pending → Bindings → Type 0
+Matching ps ws b0 l t st a q b = (us : Terms) × MatchingWith ps ws b0 l t st a q b us
 
--- that, of any pattern that stands from one place up to another
-abbrev pub MatchesAll : List ℕ → ℕ → ℕ → Bindings → Store → Place → ℕ → Pending → Bindings → Type 0
-MatchesAll ws from1 to b0 st p a q b = (ps : List ℕ) (l : Term) → Pattern ps ws from1 to l st p →
-    Matching ps ws to b0 l (term_in st p.0) st a q b
+-- that, of any pattern whose row the words are
+abbrev pub MatchesAll : List ℕ → Bindings → Store → Place → ℕ → Pending → Bindings → Type 0
+MatchesAll ws b0 st p a q b = (ps : List ℕ) (l : Term) → Pattern ps ws l st p → Matching ps ws b0 l (term_in st p.0) st a q b
 
 -- one symbol further, or nothing put for letters as b0 says makes l the term t
-abbrev pub Turned : List ℕ → List ℕ → ℕ → Bindings → Term → Term → Store → ℕ → Pending → Bindings → Bool → Type 0
-Turned ps ws to b0 l t st a q b true = Matching ps ws to b0 l t st a q b
-Turned ps ws to b0 l t st a q b false = (s : ℕ → Term) → Agrees st b0 s → put s l ≢ t
+abbrev pub Turned : List ℕ → List ℕ → Bindings → Term → Term → Store → ℕ → Pending → Bindings → Bool → Type 0
+Turned ps ws b0 l t st a q b true = Matching ps ws b0 l t st a q b
+Turned ps ws b0 l t st a q b false = (s : ℕ → Term) → Agrees st b0 s → put s l ≢ t
 
 -- a turn with the symbol at place a, whatever is matched
 abbrev pub Turns : List ℕ → Store → ℕ → Pending → Bindings → Pending → Bindings → Bool → Type 0
-Turns ws st a q b r c x = (ps : List ℕ) (to : ℕ) (b0 : Bindings) (l t : Term) →
-    Matching ps ws to b0 l t st a q b → Turned ps ws to b0 l t st (a + 2) r c x
+Turns ws st a q b r c x = (ps : List ℕ) (b0 : Bindings) (l t : Term) →
+    Matching ps ws b0 l t st a q b → Turned ps ws b0 l t st (a + 2) r c x

@@ -1,16 +1,17 @@
 -- Where the machine stands: the state of the model that the store, its roots and the frames say, and what stays true of them.
-use Rattle.std.specs.Prelude.{◌≡◌, ℕ, zero, suc, ◌+◌, ◌-◌, ◌*◌, ◌<◌, ◌≤◌, true, List, [], ◌∷◌, length}
+use Rattle.std.specs.Prelude.{◌≡◌, ℕ, zero, suc, ◌+◌, ◌-◌, ◌*◌, ◌<◌, ◌≤◌, true, List, [], ◌∷◌, length, Some}
 use Rattle.rewriting.specs.Terms.{Term, Terms, none1, and1}
 use Rattle.rewriting.specs.Rules.{Eq, Steps, Done}
 use Rattle.rewriting.specs.Machine.{frame, eval, back, State, state, around}
 use Rattle.rewriting.specs.Machine.{Frame as ModelFrame, Focus as ModelFocus}
 use Rattle.store.specs.declared.types.Store.{Store}
-use Rattle.store.specs.declared.types.Roots.{Roots}
+use Rattle.store.specs.declared.types.Place.{Place}
 use Rattle.store.specs.Stores.{Sound, term_in, flag_in, note_in, held, Inside}
 use Rattle.engine.specs.declared.types.Frame.{Frame}
 use Rattle.engine.specs.declared.types.Frames.{Frames}
 use Rattle.engine.specs.declared.types.Focus.{Focus}
 use Rattle.engine.specs.declared.types.Focus.TheVariants.{Eval, Back}
+use Rattle.engine.specs.declared.work.Work.{Work}
 use Rattle.engine.specs.Frames.{frame_at}
 
 -- the terms g from1, g (from1 + 1), .., n of them
@@ -43,11 +44,11 @@ abbrev pub focus_of : Store → Focus → ModelFocus
 focus_of st (Eval p) = eval (term_in st p.0)
 focus_of st (Back p) = back (term_in st p.0)
 
-abbrev pub frames_in : Store → Roots → Frames → List ModelFrame
-frames_in st q fr = frames_of (λ k. held st q k) fr.words.now fr.depth q.top
+abbrev pub frames_in : Work → List ModelFrame
+frames_in w = frames_of (λ k. held w.store w.roots k) w.frames.words.now w.frames.depth w.roots.top
 
-abbrev pub state_in : Store → Roots → Frames → Focus → State
-state_in st q fr c = state (frames_in st q fr) (focus_of st c)
+abbrev pub state_in : Work → Focus → State
+state_in w c = state (frames_in w) (focus_of w.store c)
 
 -- P holds at each depth of what is worked at there
 abbrev pub Asks : (ℕ → Term → Type 0) → List ModelFrame → Term → Type 0
@@ -56,8 +57,8 @@ Asks P (k ∷ ks) t = P (length ks) t × Asks P ks (around k t)
 
 -- what frame d asked for, if it still knows: a term from which steps have led to t
 abbrev pub AskedFor : List Eq → Store → Frames → ℕ → Term → Type 0
-AskedFor rs st fr d t = fr.fresh ≤ d → 0 < (frame_at fr.words.now d).asked →
-    ((frame_at fr.words.now d).asked ≤ st.count) × Steps rs (term_in st ((frame_at fr.words.now d).asked - 1)) t
+AskedFor rs st fr d t = fr.fresh ≤ d → (p : Place) → (frame_at fr.words.now d).asked ≡ Some p →
+    (p.0 < st.count) × Steps rs (term_in st p.0) t
 
 -- flags and notes are right: a term with a flag is a normal form, and a note is the place of a normal form
 pub record Honest (rs : List Eq) (st : Store) : Type 0 where
@@ -67,15 +68,14 @@ pub record Honest (rs : List Eq) (st : Store) : Type 0 where
   pub done : (i : ℕ) → i < st.count → 0 < note_in st i → Done rs (term_in st (note_in st i - 1))
 
 -- what stays true
-pub record Running (rs : List Eq) (low : ℕ) (st : Store) (q : Roots) (fr : Frames) (c : Focus) : Type 0 where
-  pub sound : Sound st
-  pub honest : Honest rs st
-  pub inside : Inside st q
-  pub framed : Framed fr.words.now fr.depth q.top low
-  pub long : 4 * fr.depth ≤ length fr.words.now
-  pub fresh : fr.fresh ≤ fr.depth
-  pub focus : focus_place c < st.count
-  pub asked : Asks (AskedFor rs st fr) (frames_in st q fr) (term_in st (focus_place c))
+pub record Running (rs : List Eq) (low : ℕ) (w : Work) (c : Focus) : Type 0 where
+  pub honest : Honest rs w.store
+  pub inside : Inside w.store w.roots
+  pub framed : Framed w.frames.words.now w.frames.depth w.roots.top low
+  pub long : 4 * w.frames.depth ≤ length w.frames.words.now
+  pub fresh : w.frames.fresh ≤ w.frames.depth
+  pub focus : focus_place c < w.store.count
+  pub asked : Asks (AskedFor rs w.store w.frames) (frames_in w) (term_in w.store (focus_place c))
 
 -- the terms of a store are kept, and its flags and notes are right
 pub record Holding (rs : List Eq) (a b : Store) : Type 0 where

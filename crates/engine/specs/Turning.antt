@@ -11,11 +11,11 @@ use Rattle.store.specs.Stores.{term_in, part_in, held}
 use Rattle.store.specs.Stacks.{root_in}
 use Rattle.store.specs.Roots.{HasRoots}
 use Rattle.books.specs.declared.row.Book.{Book}
-use Rattle.books.specs.Books.{told, SoundBook}
+use Rattle.books.specs.Books.{told}
 use Rattle.engine.specs.declared.types.Frame.{Frame}
-use Rattle.engine.specs.declared.types.Frames.{Frames}
 use Rattle.engine.specs.declared.types.Focus.{Focus}
 use Rattle.engine.specs.declared.types.Focus.TheVariants.{Eval, Back}
+use Rattle.engine.specs.declared.work.Work.{Work}
 use Rattle.engine.specs.Frames.{frame_at}
 use Rattle.engine.specs.Rewriting.{ByRule}
 use Rattle.engine.specs.Running.{Running, Holding, state_in}
@@ -48,48 +48,46 @@ abbrev pub Goes : List Eq → State → State → Type 0
 Goes rs x z = (y : State) × Move rs x y × Moves rs y z
 
 -- there is space for a turn
-pub record SpaceForTurn (st : Store) (q : Roots) (fr : Frames) : Type 0 where
-  pub slots : st.count + 33 ≤ st.limit
-  pub roots : HasRoots q.cells.now (q.top + 3)
-  pub frames : 4 * (fr.depth + 1) ≤ length fr.words.now
+pub record SpaceForTurn (w : Work) : Type 0 where
+  pub slots : w.store.count + 33 ≤ w.store.limit
+  pub roots : HasRoots w.roots.cells.now (w.roots.top + 3)
+  pub frames : 4 * (w.frames.depth + 1) ≤ length w.frames.words.now
 
 -- a turn can be taken
-pub record Ready (k : Book) (low : ℕ) (st : Store) (q : Roots) (fr : Frames) (c : Focus) : Type 0 where
-  pub book : SoundBook k
+pub record Ready (k : Book) (low : ℕ) (w : Work) (c : Focus) : Type 0 where
   pub down : AllDown (rank (told k).ranks) (told k).rules
-  pub running : Running (told k).rules low st q fr c
-  pub valid : Valid (told k) (state_in st q fr c)
+  pub running : Running (told k).rules low w c
+  pub valid : Valid (told k) (state_in w c)
 
 -- what is below the frames' roots is kept, and no words are lost
-pub record KeptBelow (low : ℕ) (st : Store) (q : Roots) (fr : Frames) (su : Store) (r : Roots) (gr : Frames) : Type 0 where
-  pub room : su.room ≡ st.room
-  pub cells : length r.cells.now ≡ length q.cells.now
-  pub words : length gr.words.now ≡ length fr.words.now
-  pub terms : (k : ℕ) → k < low → held su r k ≡ held st q k
+pub record KeptBelow (low : ℕ) (w v : Work) : Type 0 where
+  pub room : v.store.room ≡ w.store.room
+  pub cells : length v.roots.cells.now ≡ length w.roots.cells.now
+  pub words : length v.frames.words.now ≡ length w.frames.words.now
+  pub terms : (k : ℕ) → k < low → held v.store v.roots k ≡ held w.store w.roots k
 
 -- a turn was taken
-pub record TurnedTo (rs : List Eq) (low : ℕ) (st : Store) (q : Roots) (fr : Frames) (c : Focus)
-    (su : Store) (r : Roots) (gr : Frames) (e : Focus) : Type 0 where
-  pub holding : Holding rs st su
-  pub running : Running rs low su r gr e
-  pub goes : Goes rs (state_in st q fr c) (state_in su r gr e)
-  pub kept : KeptBelow low st q fr su r gr
+pub record TurnedTo (rs : List Eq) (low : ℕ) (w : Work) (c : Focus) (v : Work) (e : Focus) : Type 0 where
+  pub holding : Holding rs w.store v.store
+  pub running : Running rs low v e
+  pub goes : Goes rs (state_in w c) (state_in v e)
+  pub kept : KeptBelow low w v
 
 -- it can be taken, whatever is below; and was
-abbrev pub CanTurn : Book → Store → Roots → Frames → Focus → Type 0
-CanTurn k st q fr c = (low : ℕ) × Ready k low st q fr c
+abbrev pub CanTurn : Book → Work → Focus → Type 0
+CanTurn k w c = (low : ℕ) × Ready k low w c
 
-abbrev pub TurnsFrom : Book → Store → Roots → Frames → Focus → Store → Roots → Frames → Focus → Type 0
-TurnsFrom k st q fr c su r gr e = (low : ℕ) → Ready k low st q fr c → TurnedTo (told k).rules low st q fr c su r gr e
+abbrev pub TurnsFrom : Book → Work → Focus → Work → Focus → Type 0
+TurnsFrom k w c v e = (low : ℕ) → Ready k low w c → TurnedTo (told k).rules low w c v e
 
 -- the top frame, and its roots
-pub record TopFrame (q : Roots) (fr : Frames) (k : Frame) : Type 0 where
-  pub some : 0 < fr.depth
-  pub long : 4 * fr.depth ≤ length fr.words.now
-  pub is : k ≡ frame_at fr.words.now (fr.depth - 1)
+pub record TopFrame (w : Work) (k : Frame) : Type 0 where
+  pub some : 0 < w.frames.depth
+  pub long : 4 * w.frames.depth ≤ length w.frames.words.now
+  pub is : k ≡ frame_at w.frames.words.now (w.frames.depth - 1)
   pub few : k.others ≤ 3
-  pub enough : k.others ≤ q.top
-  pub fits : HasRoots q.cells.now q.top
+  pub enough : k.others ≤ w.roots.top
+  pub fits : HasRoots w.roots.cells.now w.roots.top
 
 -- the parts but the first are roots
 pub record OthersPushed (st : Store) (q : Roots) (p n : ℕ) (r : Roots) : Type 0 where

@@ -1,7 +1,6 @@
 // What is put for letters.
 ghost use Rattle.std.specs.Prelude.{◌≡◌, ◌<◌, length, replicate, None};
-ghost use Rattle.engine.specs.Matching.{bound};
-ghost use Rattle.engine.specs.Matching.{BoundNow};
+ghost use Rattle.engine.specs.Matching.{bound, BoundNow};
 
 use crate::types::Bindings;
 use store::Place;
@@ -26,7 +25,7 @@ impl Bindings {
         ensures { BoundNow self.old x q self.new result }
     {
         match self.get(x) {
-            Some(p) => p.0 == q.0,
+            Some(p) => p == q,
             None => {
                 self.at[x as usize] = Some(q);
                 true

@@ -1,7 +1,6 @@
 // The terms that are built and not yet parts of another.
 ghost use Rattle.std.specs.Prelude.{◌≡◌, ◌-◌, ◌<◌, ◌≤◌, slice_index_or};
-ghost use Rattle.engine.specs.Building.{Taken};
-ghost use Rattle.engine.specs.Building.{PutOn};
+ghost use Rattle.engine.specs.Building.{PutOn, Taken};
 
 use crate::types::Built;
 use store::Place;

@@ -1,21 +1,29 @@
 // The stack of frames: signs some of whose parts are still to be brought to normal form.
-ghost use Rattle.std.specs.Prelude.{◌≡◌, ℕ, ◌+◌, ◌-◌, ◌*◌, ◌<◌, ◌≤◌, Bool, true, false, ◌⊎◌, length};
-ghost use Rattle.engine.specs.Frames.{Popped, Forgotten, Emptied};
-ghost use Rattle.engine.specs.Frames.{FramePut};
-ghost use Rattle.engine.specs.Frames.{FramePushed};
-ghost use Rattle.engine.specs.Frames.{GoneOn};
-ghost use Rattle.engine.specs.Frames.{frame_at};
-ghost use Rattle.engine.specs.Frames.{AskedBy};
-ghost use Rattle.engine.specs.Frames.{AskedTop};
+ghost use Rattle.std.specs.Prelude.{◌≡◌, ◌+◌, ◌-◌, ◌*◌, ◌<◌, ◌≤◌, true, false, length};
+ghost use Rattle.engine.specs.Frames.{asked_in, frame_at, WordFor, FramePut, FramePushed, GoneOn, AskedTop, Popped, Forgotten, Emptied};
 
 use crate::types::{Frame, Frames};
 use store::Place;
 
-// The word by which a frame remembers a place: one more than its number; 0 where that is too large for a word.
-fn asked_word(p: Place) -> u32
-    ensures { AskedBy p result }
+// The word by which a frame remembers a place: one more than its number. 0 is for none, and for a place too large for a word.
+fn asked_word(asked: Option<Place>) -> u32
+    ensures { WordFor asked result }
 {
-    if p.0 < 4294967295 { p.0 as u32 + 1 } else { 0 }
+    match asked {
+        Some(Place(i)) if i < u32::MAX as usize => i as u32 + 1,
+        _ => 0,
+    }
+}
+
+// The place that such a word remembers.
+fn asked_place(word: u32) -> Option<Place>
+    ensures { result ≡ asked_in word }
+{
+    if word == 0 {
+        None
+    } else {
+        Some(Place(word as usize - 1))
+    }
 }
 
 impl<'a> Frames<'a> {
@@ -43,13 +51,13 @@ impl Frames<'_> {
     }
 
     fn put(&mut self, d: usize, frame: Frame)
-        requires { 4 * d + 4 ≤ length self.old.words.now }
+        requires { (4 * d + 4 ≤ length self.old.words.now) × ((frame.others ≤ 3) × (frame.done ≤ 3)) }
         ensures { FramePut self.old d frame self.new }
     {
         self.words[4 * d] = frame.sign;
-        self.words[4 * d + 1] = frame.others;
-        self.words[4 * d + 2] = frame.done;
-        self.words[4 * d + 3] = frame.asked;
+        self.words[4 * d + 1] = frame.others as u32;
+        self.words[4 * d + 2] = frame.done as u32;
+        self.words[4 * d + 3] = asked_word(frame.asked);
     }
 
     // The top frame.
@@ -60,21 +68,21 @@ impl Frames<'_> {
         let d = self.depth - 1;
         Frame {
             sign: self.words[4 * d],
-            others: self.words[4 * d + 1],
-            done: self.words[4 * d + 2],
-            asked: self.words[4 * d + 3],
+            others: self.words[4 * d + 1] as usize,
+            done: self.words[4 * d + 2] as usize,
+            asked: asked_place(self.words[4 * d + 3]),
         }
     }
 
-    // What the top frame asked for, by its number and one; 0 if it is not known.
-    pub fn asked(&self) -> u32
+    // What the top frame asked for, if it is known.
+    pub fn asked(&self) -> Option<Place>
         requires { (0 < self.now.depth) × (4 * self.now.depth ≤ length self.now.words.now) }
         ensures { AskedTop self.now result }
     {
         if self.fresh < self.depth {
-            self.words[4 * (self.depth - 1) + 3]
+            self.top().asked
         } else {
-            0
+            None
         }
     }
 
@@ -85,9 +93,9 @@ impl Frames<'_> {
     {
         let frame = Frame {
             sign,
-            others: others as u32,
+            others,
             done: 0,
-            asked: asked_word(asked),
+            asked: Some(asked),
         };
         self.put(self.depth, frame);
         self.depth += 1;
@@ -95,18 +103,22 @@ impl Frames<'_> {
 
     // One more part of the top frame is done, and the next is asked for.
     pub fn go_on(&mut self, asked: Place)
-        requires depth_nonzero { (0 < self.old.depth) × (4 * self.old.depth ≤ length self.old.words.now) }
-        requires depth_bound { (frame_at self.old.words.now (self.old.depth - 1)).done < 3 }
+        requires depth { (0 < self.old.depth) × (4 * self.old.depth ≤ length self.old.words.now) }
+        requires others { (frame_at self.old.words.now (self.old.depth - 1)).others ≤ 3 }
+        requires done { (frame_at self.old.words.now (self.old.depth - 1)).done < 3 }
         ensures { GoneOn self.old asked self.new }
     {
         let d = self.depth - 1;
-        let mut frame = self.top();
-        frame.done += 1;
-        frame.asked = asked_word(asked);
-        self.put(d, frame);
-        if d < self.fresh {
-            self.fresh = d;
-        }
+        let frame = self.top();
+        self.put(
+            d,
+            Frame {
+                done: frame.done + 1,
+                asked: Some(asked),
+                ..frame
+            },
+        );
+        self.fresh = self.fresh.min(d);
     }
 
     // All parts of the top frame are done.
@@ -115,9 +127,7 @@ impl Frames<'_> {
         ensures { Popped self.old self.new }
     {
         self.depth -= 1;
-        if self.depth < self.fresh {
-            self.fresh = self.depth;
-        }
+        self.fresh = self.fresh.min(self.depth);
     }
 
     // The places that were asked for mean nothing any more.

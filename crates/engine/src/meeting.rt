@@ -1,17 +1,13 @@
 // Two terms compared by their normal forms.
 ghost use Rattle.std.specs.Prelude.{ℕ};
-ghost use Rattle.store.specs.Stores.{held};
 ghost use Rattle.store.specs.Roots.{HasRoots};
-ghost use Rattle.engine.specs.Meeting.{Ample, Working, Compares, Exchanged};
-ghost use Rattle.engine.specs.Meeting.{TwoRoots};
-ghost use Rattle.engine.specs.Meeting.{LeftIdle};
-ghost use Rattle.engine.specs.Meeting.{BothNormal};
-ghost use Rattle.engine.specs.Meeting.{RootsCompared};
+ghost use Rattle.engine.specs.Normal.{root_term};
+ghost use Rattle.engine.specs.Meeting.{Ample, Working, Compares, Exchanged, TwoRoots, LeftIdle, BothNormal, RootsCompared};
 
-use crate::normal::normalize;
-use crate::types::{Compared, Frames};
+use crate::types::NoRoom;
+use crate::work::Work;
 use books::Book;
-use store::{Roots, Store};
+use store::Roots;
 
 // Exchanges the two lowest roots.
 fn exchange(roots: &mut Roots)
@@ -24,47 +20,37 @@ fn exchange(roots: &mut Roots)
     roots.set(1, first);
 }
 
-// Brings the terms of both roots to normal form, and exchanges them; or says no, for want of room.
-fn both_normal(book: &Book, store: &mut Store, roots: &mut Roots, frames: &mut Frames) -> bool
-    requires { (Working book.now store.old) × (TwoRoots book.now store.old roots.old) }
-    ensures { BothNormal book.now store.old roots.old frames.old
-        store.new roots.new frames.new result }
-{
-    if !normalize(book, store, roots, frames) {
-        return false;
+impl Work<'_> {
+    // Brings the terms of both roots to normal form, and exchanges them.
+    fn both_normal(&mut self, book: &Book) -> Result<(), NoRoom>
+        requires { (Working book.now self.old.store) × (TwoRoots book.now self.old) }
+        ensures { BothNormal book.now self.old self.new result }
+    {
+        self.normalize(book)?;
+        exchange(&mut self.roots);
+        self.normalize(book)
     }
-    exchange(roots);
-    normalize(book, store, roots, frames)
-}
 
-// Compares the terms of the two roots. One place has one term, so then no step is needed.
-fn compare_roots(book: &Book, store: &mut Store, roots: &mut Roots, frames: &mut Frames) -> Compared
-    requires { (Working book.now store.old) × (TwoRoots book.now store.old roots.old) }
-    ensures { RootsCompared book.now store.old roots.old frames.old
-        store.new roots.new frames.new result }
-{
-    if store.same(roots.place(0), roots.place(1)) {
-        return Compared::Same;
+    // Compares the terms of the two roots. One place has one term, so then no step is needed.
+    fn compare_roots(&mut self, book: &Book) -> Result<bool, NoRoom>
+        requires { (Working book.now self.old.store) × (TwoRoots book.now self.old) }
+        ensures { RootsCompared book.now self.old self.new result }
+    {
+        if self.store.same(self.roots.place(0), self.roots.place(1)) {
+            return Ok(true);
+        }
+        self.both_normal(book)?;
+        Ok(self.store.same(self.roots.place(0), self.roots.place(1)))
     }
-    if !both_normal(book, store, roots, frames) {
-        return Compared::Room;
-    }
-    if store.same(roots.place(0), roots.place(1)) {
-        return Compared::Same;
-    }
-    Compared::Different
-}
 
-// Brings the terms of the two roots to normal form and compares them; takes both roots away.
-pub fn compare(book: &Book, store: &mut Store, roots: &mut Roots, frames: &mut Frames) -> Compared
-    requires { (Working book.now store.old) × (TwoRoots book.now store.old roots.old) }
-    ensures idle { LeftIdle book.now store.old roots.old frames.old
-        store.new roots.new frames.new }
-    ensures result { (n : ℕ) → Ample n store.old roots.old frames.old →
-        Compares book.now n (held store.old roots.old 0)
-        (held store.old roots.old 1) result }
-{
-    let found = compare_roots(book, store, roots, frames);
-    roots.truncate(0);
-    found
+    // Whether the terms of the two roots have one normal form; takes both roots away.
+    pub fn compare(&mut self, book: &Book) -> Result<bool, NoRoom>
+        requires { (Working book.now self.old.store) × (TwoRoots book.now self.old) }
+        ensures idle { LeftIdle book.now self.old self.new }
+        ensures result { (n : ℕ) → Ample n self.old → Compares book.now n (root_term self.old 0) (root_term self.old 1) result }
+    {
+        let found = self.compare_roots(book);
+        self.roots.truncate(0);
+        found
+    }
 }

@@ -1,63 +1,48 @@
 // Normal forms: the machine runs until the term is brought to its normal form, or space is wanting.
 ghost use Rattle.std.specs.Prelude.{◌≡◌, ℕ, ◌+◌, ◌-◌, ◌<◌, ◌≤◌};
-ghost use Rattle.engine.specs.Turning.{Ready};
-ghost use Rattle.engine.specs.Turning.{CanTurn};
+ghost use Rattle.engine.specs.Turning.{Ready, CanTurn};
 ghost use Rattle.engine.specs.Spacing.{Stepped};
 ghost use Rattle.engine.specs.Normal.{Normalized, Startable};
 
-use crate::space::with_space;
-use crate::turns::{back, eval};
-use crate::types::{Focus, Frames, Progress};
+use crate::types::{Focus, NoRoom};
+use crate::work::Work;
 use books::Book;
-use store::{Roots, Store};
+use std::ops::ControlFlow;
+use store::Place;
 
-// One turn, if there is space for it.
-fn step(
-    book: &Book,
-    store: &mut Store,
-    roots: &mut Roots,
-    frames: &mut Frames,
-    focus: Focus,
-) -> Progress
-    requires { CanTurn book.now store.old roots.old frames.old focus }
-    ensures { (low : ℕ) → Ready book.now low store.old roots.old frames.old focus →
-        Stepped book.now low store.old roots.old frames.old focus
-        store.new roots.new frames.new result }
-{
-    let Some(focus) = with_space(store, roots, frames, focus) else {
-        return Progress::Stopped;
-    };
-    match focus {
-        Focus::Eval(p) => Progress::Going(eval(book, store, roots, frames, p)),
-        Focus::Back(v) => {
-            if frames.depth == 0 {
-                return Progress::Finished(v);
-            }
-            Progress::Going(back(book, store, roots, frames, v))
+impl Work<'_> {
+    // One turn, if there is space for it: to the next focus, or to the end with a normal form.
+    fn step(&mut self, book: &Book, focus: Focus) -> Result<ControlFlow<Place, Focus>, NoRoom>
+        requires { CanTurn book.now self.old focus }
+        ensures { (low : ℕ) → Ready book.now low self.old focus → Stepped book.now low self.old focus self.new result }
+    {
+        match self.with_space(focus)? {
+            Focus::Eval(p) => Ok(ControlFlow::Continue(self.eval(book, p))),
+            Focus::Back(v) if self.frames.depth == 0 => Ok(ControlFlow::Break(v)),
+            Focus::Back(v) => Ok(ControlFlow::Continue(self.back(book, v))),
         }
     }
-}
 
-// Puts the normal form of the uppermost root's term in its place; or takes this root away and says no, for want of space.
-pub fn normalize(book: &Book, store: &mut Store, roots: &mut Roots, frames: &mut Frames) -> bool
-    requires { Startable book.now store.old roots.old }
-    ensures { Normalized book.now store.old roots.old frames.old
-        store.new roots.new frames.new result }
-{
-    let low = roots.top - 1;
-    let mut focus = Focus::Eval(roots.place(low));
-    roots.truncate(low);
-    frames.clear();
-    loop {
-        match step(book, store, roots, frames, focus) {
-            Progress::Going(next) => focus = next,
-            Progress::Finished(v) => {
-                roots.stack(low, v);
-                return true;
-            }
-            Progress::Stopped => {
-                roots.truncate(low);
-                return false;
+    // Puts the normal form of the uppermost root's term in its place; or takes this root away, for want of space.
+    pub fn normalize(&mut self, book: &Book) -> Result<(), NoRoom>
+        requires { Startable book.now self.old }
+        ensures { Normalized book.now self.old self.new result }
+    {
+        let low = self.roots.top - 1;
+        let mut focus = Focus::Eval(self.roots.place(low));
+        self.roots.truncate(low);
+        self.frames.clear();
+        loop {
+            match self.step(book, focus) {
+                Ok(ControlFlow::Continue(next)) => focus = next,
+                Ok(ControlFlow::Break(v)) => {
+                    self.roots.stack(low, v);
+                    return Ok(());
+                }
+                Err(e) => {
+                    self.roots.truncate(low);
+                    return Err(e);
+                }
             }
         }
     }

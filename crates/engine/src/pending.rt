@@ -1,11 +1,7 @@
 // The places that are still to be matched.
 ghost use Rattle.std.specs.Prelude.{◌≡◌, ℕ, ◌+◌, ◌-◌, ◌<◌, ◌≤◌, length};
-ghost use Rattle.store.specs.Stores.{Sound};
-ghost use Rattle.store.specs.Stores.{arity_in};
-ghost use Rattle.store.specs.Stores.{parts_in};
-ghost use Rattle.engine.specs.Matching.{Popped, Pushed, Single};
-ghost use Rattle.engine.specs.Matching.{PlacesInside};
-ghost use Rattle.engine.specs.Matching.{PartsPending};
+ghost use Rattle.store.specs.Stores.{arity_in, parts_in};
+ghost use Rattle.engine.specs.Matching.{PartsPending, PlacesInside, Popped, Pushed, Single};
 
 use crate::types::Pending;
 use store::{Node, Place, Store};
@@ -31,7 +27,7 @@ impl Pending {
 
     // The parts of the sign at a place, the first one last.
     fn push_parts(&mut self, store: &Store, p: Place, n: usize)
-        requires sound { (Sound store.now) × ((p.0 < store.now.count) × ((arity_in store.now p.0 ≡ n) × (n ≤ 4))) }
+        requires parts { (p.0 < store.now.count) × ((arity_in store.now p.0 ≡ n) × (n ≤ 4)) }
         requires n_bound { self.old.len + n ≤ 36 }
         requires places_inside { PlacesInside store.now self.old.places self.old.len }
         ensures { Pushed store.now self.old (parts_in store.now p.0 n) self.new }
@@ -44,7 +40,7 @@ impl Pending {
 
     // The parts of the sign at a place are to be matched next, if the sign there is f.
     pub fn open(&mut self, store: &Store, p: Place, f: u32) -> bool
-        requires sound { (Sound store.now) × (p.0 < store.now.count) }
+        requires inside { p.0 < store.now.count }
         requires len_bound { self.old.len ≤ 32 }
         requires places_inside { PlacesInside store.now self.old.places self.old.len }
         ensures { PartsPending store.now p f self.old self.new result }

@@ -1,68 +1,56 @@
 // Two rows whose terms are compared by a book's rules.
 ghost use Rattle.std.specs.Prelude.{◌≡◌};
 ghost use Rattle.rewriting.specs.Answers.{Tells};
-ghost use Rattle.store.specs.Stores.{Sound};
-ghost use Rattle.books.specs.Books.{SoundBook};
-ghost use Rattle.engine.specs.Meeting.{Working};
-ghost use Rattle.engine.specs.Meeting.{LeftIdle};
-ghost use Rattle.engine.specs.Pairs.{TwoRows};
-ghost use Rattle.engine.specs.Pairs.{RowsRead};
-ghost use Rattle.engine.specs.Pairs.{RowsCompared};
+ghost use Rattle.engine.specs.Meeting.{Working, LeftIdle};
+ghost use Rattle.engine.specs.Pairs.{TwoRows, RowsRead, RowsCompared};
 
-use crate::meeting::compare;
-use crate::types::{Compared, Frames};
+use crate::types::NoRoom;
+use crate::work::Work;
 use books::{Book, is_term};
-use store::{Roots, Store};
+use store::Full;
+
+impl From<Full> for NoRoom {
+    fn from(_: Full) -> NoRoom {
+        NoRoom
+    }
+}
 
 // Whether both are rows of terms over the book's signature, with letters below 16.
 fn are_terms(book: &Book, left: &[u32], right: &[u32]) -> bool
-    requires { SoundBook book.now }
     ensures { Tells result (TwoRows book.now left.now right.now) }
 {
-    let signs = book.layout.signs();
-    let parts = &book.words[1..1 + signs];
-    is_term(parts, left) && is_term(parts, right)
+    is_term(book.parts(), left) && is_term(book.parts(), right)
 }
 
-// Reads two rows: the lower root holds the left term, the upper one the right. Or says no, for want of room.
-fn read_rows(book: &Book, left: &[u32], right: &[u32], store: &mut Store, roots: &mut Roots) -> bool
-    requires sound_book { (SoundBook book.now) × (TwoRows book.now left.now right.now) }
-    requires sound { (Sound store.old) × (roots.old.top ≡ 0) }
-    ensures { RowsRead book.now store.old roots.old left.now right.now
-        store.new roots.new result }
-{
-    let signs = book.layout.signs();
-    let parts = &book.words[1..1 + signs];
-    let Ok(()) = store.read_row(roots, parts, left) else {
-        return false;
-    };
-    let Ok(()) = store.read_row(roots, parts, right) else {
-        return false;
-    };
-    true
-}
+impl Work<'_> {
+    // Reads two rows: the lower root holds the left term, the upper one the right.
+    fn read_rows(&mut self, book: &Book, left: &[u32], right: &[u32]) -> Result<(), NoRoom>
+        requires { (TwoRows book.now left.now right.now) × (self.old.roots.top ≡ 0) }
+        ensures { RowsRead book.now self.old left.now right.now self.new result }
+    {
+        self.store.read_row(&mut self.roots, book.parts(), left)?;
+        self.store.read_row(&mut self.roots, book.parts(), right)?;
+        Ok(())
+    }
 
-// Compares the terms of two rows; none if the words are not such rows.
-pub fn compare_rows(
-    book: &Book,
-    left: &[u32],
-    right: &[u32],
-    store: &mut Store,
-    roots: &mut Roots,
-    frames: &mut Frames,
-) -> Option<Compared>
-    requires { (Working book.now store.old) × (roots.old.top ≡ 0) }
-    ensures idle { LeftIdle book.now store.old roots.old frames.old
-        store.new roots.new frames.new }
-    ensures result { RowsCompared book.now store.old roots.old frames.old
-        left.now right.now result }
-{
-    if !are_terms(book, left, right) {
-        return None;
+    // Whether the terms of two rows have one normal form; none if the words are not such rows.
+    pub fn compare_rows(
+        &mut self,
+        book: &Book,
+        left: &[u32],
+        right: &[u32],
+    ) -> Option<Result<bool, NoRoom>>
+        requires { (Working book.now self.old.store) × (self.old.roots.top ≡ 0) }
+        ensures idle { LeftIdle book.now self.old self.new }
+        ensures result { RowsCompared book.now self.old left.now right.now result }
+    {
+        if !are_terms(book, left, right) {
+            return None;
+        }
+        if let Err(e) = self.read_rows(book, left, right) {
+            self.roots.truncate(0);
+            return Some(Err(e));
+        }
+        Some(self.compare(book))
     }
-    if !read_rows(book, left, right, store, roots) {
-        roots.truncate(0);
-        return Some(Compared::Room);
-    }
-    Some(compare(book, store, roots, frames))
 }

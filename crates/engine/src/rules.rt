@@ -1,51 +1,39 @@
 // Rewriting at the top of a term, by the first rule that matches.
 ghost use Rattle.std.specs.Prelude.{◌+◌, ◌<◌, ◌≤◌, length};
 ghost use Rattle.store.specs.Stores.{term_in};
-ghost use Rattle.books.specs.Books.{told};
-ghost use Rattle.books.specs.Books.{rule_in};
-ghost use Rattle.engine.specs.Matching.{Matched};
-ghost use Rattle.engine.specs.Rewriting.{Rewritable, Rewritten};
-ghost use Rattle.engine.specs.Rewriting.{TopSign};
-ghost use Rattle.engine.specs.Rewriting.{RuleFound};
+ghost use Rattle.books.specs.Books.{told, rule_in};
+ghost use Rattle.engine.specs.Matching.{MatchedOn, nothing};
+ghost use Rattle.engine.specs.Rewriting.{Rewritable, Rewritten, RuleFound, TopSign};
 
-use crate::instance::instance;
-use crate::matching::matches;
+use crate::instance::row_instance;
+use crate::matching::match_pattern;
 use crate::types::Bindings;
 use books::Book;
 use store::{Node, Place, Store};
 
 // Matches the left side of rule i with the term at p, whose top sign is f. Most rules fail at that sign already.
-fn match_rule(
-    book: &Book,
-    i: usize,
-    store: &Store,
-    p: Place,
-    f: u32,
-    bindings: &mut Bindings,
-) -> bool
+fn match_rule(book: &Book, i: usize, store: &Store, p: Place, f: u32) -> Option<Bindings>
     requires { (Rewritable book.now store.now p) × ((i < length (told book.now).rules) × (TopSign store.now p f)) }
-    ensures { Matched store.now bindings.new (rule_in book.now i).left
-        (term_in store.now p.0) result }
+    ensures { MatchedOn store.now nothing (rule_in book.now i).left (term_in store.now p.0) result }
 {
-    let sides = book.rule(i);
-    if book.words[sides.left + 1] != f {
-        return false;
+    let left = book.left(i);
+    if left[1] != f {
+        return None;
     }
-    *bindings = Bindings::new();
-    matches(book, i, sides.left, sides.right, store, p, bindings)
+    match_pattern(left, store, p, Bindings::new())
 }
 
 // The first rule whose left side matches the term at p, with what is put for its letters.
-fn find_rule(book: &Book, store: &Store, p: Place, bindings: &mut Bindings) -> Option<usize>
+fn find_rule(book: &Book, store: &Store, p: Place) -> Option<(usize, Bindings)>
     requires { Rewritable book.now store.now p }
-    ensures { RuleFound book.now store.now p bindings.new result }
+    ensures { RuleFound book.now store.now p result }
 {
     let Node::Sign(f, _) = store.view(p) else {
         return None;
     };
     for i in 0..book.layout.rules() {
-        if match_rule(book, i, store, p, f, bindings) {
-            return Some(i);
+        if let Some(bindings) = match_rule(book, i, store, p, f) {
+            return Some((i, bindings));
         }
     }
     None
@@ -56,10 +44,6 @@ pub fn rewrite(book: &Book, store: &mut Store, p: Place) -> Option<Place>
     requires { (Rewritable book.now store.old p) × (store.old.count + 32 ≤ store.old.limit) }
     ensures { Rewritten (told book.now).rules store.old p store.new result }
 {
-    let mut bindings = Bindings::new();
-    let Some(i) = find_rule(book, store, p, &mut bindings) else {
-        return None;
-    };
-    let sides = book.rule(i);
-    Some(instance(book, i, sides.right, sides.end, &bindings, store))
+    let (i, bindings) = find_rule(book, store, p)?;
+    Some(row_instance(book.parts(), book.right(i), &bindings, store))
 }

@@ -1,24 +1,20 @@
 // Space for the next turn of the machine: slots, cells for roots and words for a frame.
 ghost use Rattle.std.specs.Prelude.{◌≡◌, ℕ, ◌+◌, ◌-◌, ◌*◌, ◌<◌, ◌≤◌};
-ghost use Rattle.store.specs.Stores.{Sound, Inside};
+ghost use Rattle.store.specs.Stores.{Inside};
 ghost use Rattle.store.specs.Roots.{HasRoots};
-ghost use Rattle.engine.specs.Running.{Running};
-ghost use Rattle.engine.specs.Running.{focus_place};
-ghost use Rattle.engine.specs.Spacing.{Collected};
-ghost use Rattle.engine.specs.Spacing.{focus_at};
-ghost use Rattle.engine.specs.Spacing.{SpaceOrHalted};
+ghost use Rattle.engine.specs.Running.{Running, focus_place};
+ghost use Rattle.engine.specs.Spacing.{Collected, focus_at, SpaceOrHalted};
 
-use crate::types::{Focus, Frames};
-use store::{Place, Roots, Store};
+use crate::types::{Focus, NoRoom};
+use crate::work::Work;
+use store::Place;
 
 impl Focus {
     fn place(self) -> Place
         ensures { result.0 ≡ focus_place self }
     {
-        match self {
-            Focus::Eval(p) => p,
-            Focus::Back(p) => p,
-        }
+        let (Focus::Eval(p) | Focus::Back(p)) = self;
+        p
     }
 
     // The same at another place.
@@ -32,47 +28,40 @@ impl Focus {
     }
 }
 
-// Makes room for 33 slots, with the term at p kept: the place where it is then.
-fn collect(store: &mut Store, roots: &mut Roots, p: Place) -> Option<Place>
-    requires sound { (Sound store.old) × ((Inside store.old roots.old) × (p.0 < store.old.count)) }
-    requires has_roots { HasRoots roots.old.cells.now (roots.old.top + 1) }
-    ensures { Collected store.old roots.old p store.new roots.new result }
-{
-    let top = roots.top;
-    roots.stack(top, p);
-    if !store.reserve(roots, 33) {
-        roots.truncate(top);
-        return None;
+impl Work<'_> {
+    // Makes room for 33 slots, with the term at p kept: the place where it is then. What frames asked for is forgotten.
+    fn collect(&mut self, p: Place) -> Result<Place, NoRoom>
+        requires inside { (Inside self.old.store self.old.roots) × (p.0 < self.old.store.count) }
+        requires has_roots { HasRoots self.old.roots.cells.now (self.old.roots.top + 1) }
+        ensures { Collected self.old p self.new result }
+    {
+        let top = self.roots.top;
+        self.frames.forget();
+        self.roots.stack(top, p);
+        if let Err(full) = self.store.reserve(&mut self.roots, 33) {
+            self.roots.truncate(top);
+            return Err(NoRoom::from(full));
+        }
+        let q = self.roots.place(top);
+        self.roots.truncate(top);
+        Ok(q)
     }
-    let q = roots.place(top);
-    roots.truncate(top);
-    Some(q)
-}
 
-// Sees to it that there is space for a turn.
-pub fn with_space(
-    store: &mut Store,
-    roots: &mut Roots,
-    frames: &mut Frames,
-    focus: Focus,
-) -> Option<Focus>
-    requires { (Sound store.old) × ((Inside store.old roots.old) × (focus_place focus < store.old.count)) }
-    ensures { (rs : _) (low : ℕ) → Running rs low store.old roots.old frames.old focus →
-        SpaceOrHalted rs low store.old roots.old frames.old focus
-        store.new roots.new frames.new result }
-{
-    if !frames.has_space() {
-        return None;
-    }
-    if roots.cells.len() / 2 < roots.top + 4 {
-        return None;
-    }
-    if 33 <= store.limit - store.count {
-        return Some(focus);
-    }
-    frames.forget();
-    match collect(store, roots, focus.place()) {
-        Some(p) => Some(focus.at(p)),
-        None => None,
+    // Sees to it that there is space for a turn.
+    pub(crate) fn with_space(&mut self, focus: Focus) -> Result<Focus, NoRoom>
+        requires { (Inside self.old.store self.old.roots) × (focus_place focus < self.old.store.count) }
+        ensures { (rs : _) (low : ℕ) → Running rs low self.old focus → SpaceOrHalted rs low self.old focus self.new result }
+    {
+        if !self.frames.has_space() {
+            return Err(NoRoom);
+        }
+        if self.roots.cells.len() / 2 < self.roots.top + 4 {
+            return Err(NoRoom);
+        }
+        if 33 <= self.store.limit - self.store.count {
+            return Ok(focus);
+        }
+        let p = self.collect(focus.place())?;
+        Ok(focus.at(p))
     }
 }

@@ -3,26 +3,18 @@ ghost use Rattle.std.specs.Prelude.{◌≡◌, ℕ, ◌+◌, ◌-◌, ◌*◌, �
 ghost use Rattle.rewriting.specs.Rules.{Done, Steps};
 ghost use Rattle.rewriting.specs.Machine.{Still};
 ghost use Rattle.rewriting.specs.Terms.{sign};
-ghost use Rattle.store.specs.Stores.{Sound};
-ghost use Rattle.store.specs.Stores.{term_in};
-ghost use Rattle.store.specs.Stores.{arity_in};
-ghost use Rattle.store.specs.Stores.{parts_in};
+ghost use Rattle.store.specs.Stores.{term_in, arity_in, parts_in};
 ghost use Rattle.store.specs.Stacks.{root_in};
 ghost use Rattle.store.specs.Roots.{HasRoots};
 ghost use Rattle.books.specs.Books.{told};
 ghost use Rattle.engine.specs.declared.types.Focus.TheVariants.{Eval, Back};
 ghost use Rattle.engine.specs.Rewriting.{Rewritable};
 ghost use Rattle.engine.specs.Running.{Honest, Holding};
-ghost use Rattle.engine.specs.Turning.{Advanced, Applied};
-ghost use Rattle.engine.specs.Turning.{OthersPushed};
-ghost use Rattle.engine.specs.Turning.{PartsGathered};
-ghost use Rattle.engine.specs.Turning.{TurnsFrom};
-ghost use Rattle.engine.specs.Turning.{CanTurn};
-ghost use Rattle.engine.specs.Turning.{TopFrame};
-ghost use Rattle.engine.specs.Turning.{SpaceForTurn};
+ghost use Rattle.engine.specs.Turning.{Advanced, Applied, OthersPushed, PartsGathered, TurnsFrom, CanTurn, TopFrame, SpaceForTurn};
 
 use crate::rules::rewrite;
-use crate::types::{Focus, Frame, Frames};
+use crate::types::{Focus, Frame};
+use crate::work::Work;
 use books::Book;
 use store::{Node, Place, Roots, Store};
 
@@ -38,10 +30,8 @@ fn advance(book: &Book, store: &mut Store, p: Place) -> Option<Focus>
     if let Some(q) = store.note(p) {
         return Some(Focus::Back(q));
     }
-    match rewrite(book, store, p) {
-        Some(q) => Some(Focus::Eval(q)),
-        None => None,
-    }
+    let q = rewrite(book, store, p)?;
+    Some(Focus::Eval(q))
 }
 
 // The same for a term that is a normal form if no rule can be used at its top.
@@ -52,38 +42,22 @@ fn apply(book: &Book, store: &mut Store, p: Place) -> Focus
         Done (told book.now).rules (term_in store.old p.0) }
     ensures { Applied (told book.now).rules store.old p store.new result }
 {
-    match advance(book, store, p) {
-        Some(focus) => focus,
-        None => {
-            store.set_normal(p);
-            Focus::Back(p)
-        }
+    if let Some(focus) = advance(book, store, p) {
+        return focus;
     }
+    store.set_normal(p);
+    Focus::Back(p)
 }
 
 // The parts of the sign at a place but the first are n more roots.
 fn push_others(store: &Store, roots: &mut Roots, p: Place, n: usize)
-    requires sound { (Sound store.now) × ((p.0 < store.now.count) × (arity_in store.now p.0 ≡ n + 1)) }
+    requires parts { (p.0 < store.now.count) × (arity_in store.now p.0 ≡ n + 1) }
     requires has_roots { HasRoots roots.old.cells.now (roots.old.top + n) }
     ensures { OthersPushed store.now roots.old p.0 n roots.new }
 {
     for k in 0..n {
         roots.stack(roots.top, store.part(p, k + 1));
     }
-}
-
-// To the first of n + 1 parts.
-fn go_in(store: &Store, roots: &mut Roots, frames: &mut Frames, p: Place, f: u32, n: usize) -> Focus
-    requires n_bound { (n ≤ 3) × ((arity_in store.now p.0 ≡ n + 1) × ((Sound store.now) × (p.0 < store.now.count))) }
-    requires p_value { term_in store.now p.0 ≡ sign f (parts_in store.now p.0 (n + 1)) }
-    requires space_for_turn { SpaceForTurn store.now roots.old frames.old }
-    ensures { (k : _) → TurnsFrom k store.now roots.old frames.old (Eval p)
-        store.now roots.new frames.new result }
-{
-    let first = store.part(p, 0);
-    push_others(store, roots, p, n);
-    frames.push(f, n, first);
-    Focus::Eval(first)
 }
 
 // The place of a frame's part k: one of n roots from one on, or v.
@@ -108,124 +82,95 @@ fn gather_parts(roots: &Roots, from: usize, n: usize, v: Place) -> [Place; 4]
     ]
 }
 
-// To the next part, with v in its place.
-fn go_on(roots: &mut Roots, frames: &mut Frames, frame: Frame, v: Place) -> Focus
-    requires { (TopFrame roots.old frames.old frame) × (frame.done < frame.others) }
-    ensures { (k st : _) → TurnsFrom k st roots.old frames.old (Back v)
-        st roots.new frames.new result }
-{
-    let at = roots.top - frame.others as usize + frame.done as usize;
-    let next = roots.place(at);
-    roots.set(at, v);
-    frames.go_on(next);
-    Focus::Eval(next)
-}
-
-// Back to the sign, v being the last of its parts.
-fn go_out(
-    book: &Book,
-    store: &mut Store,
-    roots: &mut Roots,
-    frames: &mut Frames,
-    frame: Frame,
-    v: Place,
-) -> Focus
-    requires can_turn { CanTurn book.now store.old roots.old frames.old (Back v) }
-    requires count_bound { (store.old.count + 33 ≤ store.old.limit) ×
-        ((TopFrame roots.old frames.old frame) × (frame.done ≡ frame.others)) }
-    ensures { TurnsFrom book.now store.old roots.old frames.old (Back v)
-        store.new roots.new frames.new result }
-{
-    let n = frame.others as usize;
-    let from = roots.top - n;
-    let parts = gather_parts(roots, from, n, v);
-    let p = store.share_sign(frame.sign, parts, n + 1);
-    roots.truncate(from);
-    frames.pop();
-    apply(book, store, p)
-}
-
-// A normal form v goes to the top frame.
-fn go_back(
-    book: &Book,
-    store: &mut Store,
-    roots: &mut Roots,
-    frames: &mut Frames,
-    v: Place,
-) -> Focus
-    requires can_turn { CanTurn book.now store.old roots.old frames.old (Back v) }
-    requires count_bound { (store.old.count + 33 ≤ store.old.limit) × (0 < frames.old.depth) }
-    ensures { TurnsFrom book.now store.old roots.old frames.old (Back v)
-        store.new roots.new frames.new result }
-{
-    let frame = frames.top();
-    if frame.done < frame.others {
-        return go_on(roots, frames, frame, v);
+impl Work<'_> {
+    // To the first of n + 1 parts.
+    fn go_in(&mut self, p: Place, f: u32, n: usize) -> Focus
+        requires n_bound { (n ≤ 3) × ((arity_in self.old.store p.0 ≡ n + 1) × (p.0 < self.old.store.count)) }
+        requires p_value { term_in self.old.store p.0 ≡ sign f (parts_in self.old.store p.0 (n + 1)) }
+        requires space_for_turn { SpaceForTurn self.old }
+        ensures { (k : _) → TurnsFrom k self.old (Eval p) self.new result }
+    {
+        let first = self.store.part(p, 0);
+        push_others(&self.store, &mut self.roots, p, n);
+        self.frames.push(f, n, first);
+        Focus::Eval(first)
     }
-    go_out(book, store, roots, frames, frame, v)
-}
 
-// The same, and v is noted as the normal form of what the frame asked for.
-pub fn back(
-    book: &Book,
-    store: &mut Store,
-    roots: &mut Roots,
-    frames: &mut Frames,
-    v: Place,
-) -> Focus
-    requires can_turn { CanTurn book.now store.old roots.old frames.old (Back v) }
-    requires count_bound { (store.old.count + 33 ≤ store.old.limit) × (0 < frames.old.depth) }
-    ensures { TurnsFrom book.now store.old roots.old frames.old (Back v)
-        store.new roots.new frames.new result }
-{
-    let asked = frames.asked() as usize;
-    let focus = go_back(book, store, roots, frames, v);
-    if asked == 0 {
-        return focus;
+    // To the next part, with v in its place.
+    fn go_on(&mut self, frame: Frame, v: Place) -> Focus
+        requires { (TopFrame self.old frame) × (frame.done < frame.others) }
+        ensures { (k : _) → TurnsFrom k self.old (Back v) self.new result }
+    {
+        let at = self.roots.top - frame.others + frame.done;
+        let next = self.roots.place(at);
+        self.roots.set(at, v);
+        self.frames.go_on(next);
+        Focus::Eval(next)
     }
-    store.set_note(Place(asked - 1), v);
-    focus
-}
 
-// A turn at the sign f with n + 1 parts.
-fn enter(
-    book: &Book,
-    store: &mut Store,
-    roots: &mut Roots,
-    frames: &mut Frames,
-    p: Place,
-    f: u32,
-    n: usize,
-) -> Focus
-    requires can_turn { (CanTurn book.now store.old roots.old frames.old (Eval p)) × (SpaceForTurn store.old roots.old frames.old) }
-    requires n_bound { (n ≤ 3) × (arity_in store.old p.0 ≡ n + 1) }
-    requires p_value { term_in store.old p.0 ≡ sign f (parts_in store.old p.0 (n + 1)) }
-    ensures { TurnsFrom book.now store.old roots.old frames.old (Eval p)
-        store.new roots.new frames.new result }
-{
-    match advance(book, store, p) {
-        Some(focus) => focus,
-        None => go_in(store, roots, frames, p, f, n),
+    // Back to the sign, v being the last of its parts.
+    fn go_out(&mut self, book: &Book, frame: Frame, v: Place) -> Focus
+        requires can_turn { CanTurn book.now self.old (Back v) }
+        requires count_bound { (self.old.store.count + 33 ≤ self.old.store.limit) ×
+            ((TopFrame self.old frame) × (frame.done ≡ frame.others)) }
+        ensures { TurnsFrom book.now self.old (Back v) self.new result }
+    {
+        let from = self.roots.top - frame.others;
+        let parts = gather_parts(&self.roots, from, frame.others, v);
+        let p = self.store.share_sign(frame.sign, parts, frame.others + 1);
+        self.roots.truncate(from);
+        self.frames.pop();
+        apply(book, &mut self.store, p)
     }
-}
 
-// A turn at the term at p, which is to be brought to normal form.
-pub fn eval(
-    book: &Book,
-    store: &mut Store,
-    roots: &mut Roots,
-    frames: &mut Frames,
-    p: Place,
-) -> Focus
-    requires { (CanTurn book.now store.old roots.old frames.old (Eval p)) × (SpaceForTurn store.old roots.old frames.old) }
-    ensures { TurnsFrom book.now store.old roots.old frames.old (Eval p)
-        store.new roots.new frames.new result }
-{
-    let Node::Sign(f, n) = store.view(p) else {
-        return apply(book, store, p);
-    };
-    if n == 0 {
-        return apply(book, store, p);
+    // A normal form v goes to the top frame.
+    fn go_back(&mut self, book: &Book, v: Place) -> Focus
+        requires can_turn { CanTurn book.now self.old (Back v) }
+        requires count_bound { (self.old.store.count + 33 ≤ self.old.store.limit) × (0 < self.old.frames.depth) }
+        ensures { TurnsFrom book.now self.old (Back v) self.new result }
+    {
+        let frame = self.frames.top();
+        if frame.done < frame.others {
+            return self.go_on(frame, v);
+        }
+        self.go_out(book, frame, v)
     }
-    enter(book, store, roots, frames, p, f, n - 1)
+
+    // The same, and v is noted as the normal form of what the frame asked for.
+    pub(crate) fn back(&mut self, book: &Book, v: Place) -> Focus
+        requires can_turn { CanTurn book.now self.old (Back v) }
+        requires count_bound { (self.old.store.count + 33 ≤ self.old.store.limit) × (0 < self.old.frames.depth) }
+        ensures { TurnsFrom book.now self.old (Back v) self.new result }
+    {
+        let asked = self.frames.asked();
+        let focus = self.go_back(book, v);
+        if let Some(p) = asked {
+            self.store.set_note(p, v);
+        }
+        focus
+    }
+
+    // A turn at the sign f with n + 1 parts.
+    fn enter(&mut self, book: &Book, p: Place, f: u32, n: usize) -> Focus
+        requires can_turn { (CanTurn book.now self.old (Eval p)) × (SpaceForTurn self.old) }
+        requires n_bound { (n ≤ 3) × (arity_in self.old.store p.0 ≡ n + 1) }
+        requires p_value { term_in self.old.store p.0 ≡ sign f (parts_in self.old.store p.0 (n + 1)) }
+        ensures { TurnsFrom book.now self.old (Eval p) self.new result }
+    {
+        if let Some(focus) = advance(book, &mut self.store, p) {
+            return focus;
+        }
+        self.go_in(p, f, n)
+    }
+
+    // A turn at the term at p, which is to be brought to normal form.
+    pub(crate) fn eval(&mut self, book: &Book, p: Place) -> Focus
+        requires { (CanTurn book.now self.old (Eval p)) × (SpaceForTurn self.old) }
+        ensures { TurnsFrom book.now self.old (Eval p) self.new result }
+    {
+        match self.store.view(p) {
+            Node::Sign(f, n) if n > 0 => self.enter(book, p, f, n - 1),
+            _ => apply(book, &mut self.store, p),
+        }
+    }
 }

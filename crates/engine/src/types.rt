@@ -22,13 +22,13 @@ pub struct Built {
 }
 
 // A sign one of whose parts is worked at: how many others it has, how many of these are done, and, if it is known, the place from
-// which work at the part began, by its number and one.
-#[derive(Clone, Copy)]
+// which work at the part began.
+#[derive(Clone, Copy, Debug, PartialEq, Eq)]
 pub struct Frame {
     pub sign: u32,
-    pub others: u32,
-    pub done: u32,
-    pub asked: u32,
+    pub others: usize,
+    pub done: usize,
+    pub asked: Option<Place>,
 }
 
 // A stack of frames in lent words, four words each. Those below `fresh` have forgotten what they asked for.
@@ -40,24 +40,12 @@ pub struct Frames<'a> {
 }
 
 // What is worked at: a term to be brought to normal form, or a normal form that goes to the top frame.
-#[derive(Clone, Copy)]
+#[derive(Clone, Copy, Debug, PartialEq, Eq)]
 pub enum Focus {
     Eval(Place),
     Back(Place),
 }
 
-// Where a turn leads: to the next focus, to the end with a normal form, or nowhere for want of space.
-#[derive(Clone, Copy)]
-pub enum Progress {
-    Going(Focus),
-    Finished(Place),
-    Stopped,
-}
-
-// What is found of two terms: they have one normal form, or two different ones, or there is no room to tell.
-#[derive(Clone, Copy)]
-pub enum Compared {
-    Same,
-    Different,
-    Room,
-}
+// There is too little room for the work.
+#[derive(Clone, Copy, Debug, PartialEq, Eq)]
+pub struct NoRoom;

@@ -4,9 +4,8 @@
 #[cfg(test)]
 mod tests {
     use books::{Book, read_book};
-    use engine::rows::compare_rows;
-    use engine::types::Compared;
-    use engine::work::{Work, share_out};
+    use engine::types::NoRoom;
+    use engine::work::share_out;
     use notation::parse;
     use order::first_up;
     use std::alloc::{AllocError, Global};
@@ -43,26 +42,19 @@ rules
   drop(x) -> zero
 ";
 
-    // What is found of the terms of two rows; nothing if the words are no book whose rules go down, or no terms.
-    fn compared(words: &[u32], left: &[u32], right: &[u32], work: &mut [u32]) -> Option<Compared> {
-        let Some(layout) = read_book(words) else {
-            return None;
-        };
+    // Whether the terms of two rows have one normal form; nothing if the words are no book whose rules go down, or no terms.
+    fn compared(
+        words: &[u32],
+        left: &[u32],
+        right: &[u32],
+        work: &mut [u32],
+    ) -> Option<Result<bool, NoRoom>> {
+        let layout = read_book(words)?;
         let book = Book { words, layout };
-        if let Some(_) = first_up(&book) {
+        if first_up(&book).is_some() {
             return None;
         }
-        let Some(
-            Work {
-                mut store,
-                mut roots,
-                mut frames,
-            },
-        ) = share_out(work)
-        else {
-            return None;
-        };
-        compare_rows(&book, left, right, &mut store, &mut roots, &mut frames)
+        share_out(work)?.compare_rows(&book, left, right)
     }
 
     // n nested signs over a term.
@@ -90,8 +82,7 @@ rules
         let words = book.words.len().saturating_add(more).saturating_mul(64);
         let mut work = vec![in heap; 0; words.saturating_add(16384)]?;
         match compared(book.words.as_slice(), left, right, work.as_mut_slice()) {
-            Some(Compared::Same) => Ok(Some(true)),
-            Some(Compared::Different) => Ok(Some(false)),
+            Some(Ok(same)) => Ok(Some(same)),
             _ => Ok(None),
         }
     }

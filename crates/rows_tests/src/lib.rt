@@ -3,7 +3,7 @@
 
 #[cfg(test)]
 mod tests {
-    use books::{are_ways, is_term, read_book};
+    use books::{Book, are_ways, is_term, read_book};
     use std::alloc::{AllocError, Global};
     use std::test::Fail;
 
@@ -20,8 +20,8 @@ mod tests {
     // Whether sums with one word changed are still read as a book.
     fn reads_with(at: usize, word: u32) -> bool {
         let mut words = SUMS;
-        if at < words.len() {
-            words[at] = word;
+        if let Some(changed) = words.get_mut(at) {
+            *changed = word;
         }
         read_book(&words).is_some()
     }
@@ -73,6 +73,22 @@ mod tests {
     }
 
     #[test]
+    fn a_book_has_its_signs_and_sides(rt: HostRuntime) -> Result<(), Fail> {
+        let book = Book::read(&SUMS).ok_or("no book")?;
+        assert!(rt; book.parts() == &SUMS[1..4]);
+        assert!(rt; book.ranks() == &SUMS[4..7]);
+        if book.layout.equations() > 0 {
+            assert!(rt; book.equation_left(0) == &SUMS[9..15]);
+            assert!(rt; book.equation_right(0) == &SUMS[15..17]);
+        }
+        if book.layout.rules() > 1 {
+            assert!(rt; book.left(1) == &SUMS[41..49]);
+            assert!(rt; book.right(1) == &SUMS[49..57]);
+        }
+        Ok(())
+    }
+
+    #[test]
     fn changed_words_are_no_book(rt: HostRuntime) {
         assert!(rt; !reads_with(0, 0), "no signs");
         assert!(rt; !reads_with(2, 5), "five parts");
@@ -90,7 +106,7 @@ mod tests {
     #[test]
     fn words_cut_short_or_left_over(rt: HostRuntime) -> Result<(), Fail> {
         for end in 0..SUMS.len() {
-            assert!(rt; read_book(&SUMS[0..end]).is_none());
+            assert!(rt; read_book(&SUMS[..end]).is_none());
         }
         let mut more = SUMS.to_vec(rt.alloc())?;
         more.push(0)?;

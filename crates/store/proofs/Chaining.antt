@@ -2,9 +2,10 @@
 use Rattle.std.proofs.Common.{◌≡◌, ℕ, zero, suc, ◌+◌, ◌-◌, ◌/◌, ◌<◌, ◌≤◌, List, length, get_or, sym, refl, ap, ◌∙◌, subst, ⊎_elim}
 use Rattle.std.proofs.Common.{eq-or-lt_of_le, add-one, arith}
 use lib.Bits.{bit_and}
-use Rattle.store.specs.declared.types.Key.{Key}
+use Rattle.store.specs.declared.keys.Key.{Key}
 use Rattle.store.specs.Cells.{cell, HasSlot}
-use Rattle.store.specs.Slots.{tag_of, arity_of, kind_of, kind_at, part_at, link_at, last_at, Shape, FitsIn, Added, Alike}
+use Rattle.store.specs.Slots.{tag_of, arity_of, kind_of, kind_at, part_at, link_at, last_at, Shape, Alike}
+use Rattle.store.specs.Keys.{FitsIn, Added}
 use Rattle.store.specs.Chains.{mix_of, hash_of, bucket_of, bucket_at, key_bucket, Last, Chains, Holds, Searched, Pushed}
 use Rattle.store.proofs.Cases.{le_or_lt, eq_or, last_or_below}
 use Rattle.store.proofs.Decoding.{alike}
@@ -95,7 +96,7 @@ module _ (mask : ℕ) (vs : List ℕ) (n : ℕ) (key : Key) (ws : List ℕ) (c :
   new : bucket_at mask ws n ≡ key_bucket mask key
   new = bucket_same mask (kind_at ws n) (kind_of key.head) (λ k. part_at ws n k) (λ k. get_or key.parts k 0) (ap kind_of p.head)
       (λ m a. let e : tag_of (kind_at ws n) ≡ tag_of (kind_of key.head) = ap tag_of (ap kind_of p.head) in
-      p.parts m (omega (arith, f.tags)))
+      p.parts m (omega (arith, key.few)))
 
   own_last : Last mask ws (key_bucket mask key) (n + 1) (last_at ws (key_bucket mask key))
   own_last = subst (λ (v : ℕ). Last mask ws (key_bucket mask key) (n + 1) v) (sym p.last)

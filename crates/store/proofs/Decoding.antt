@@ -1,10 +1,11 @@
 -- What term a slot stands for, and that it stays while kinds and parts do.
 use Rattle.std.proofs.Common.{◌≡◌, ℕ, zero, suc, ◌+◌, ◌-◌, ◌*◌, ◌<◌, ◌≤◌, List, length, get_or, sym, refl, ap, ◌∙◌, ⊎_elim, arith}
 use Rattle.rewriting.specs.Terms.{Term, sign, and1}
-use Rattle.store.specs.declared.types.Key.{Key}
+use Rattle.store.specs.declared.keys.Key.{Key}
 use Rattle.store.specs.Cells.{cell}
 use Rattle.store.specs.Slots.{symbol_of, tag_of, arity_of, kind_of, kind_at, arity_at, part_at, parts_by, node_by, node, term_by, term_of}
-use Rattle.store.specs.Slots.{Shape, Shared, FitsIn, key_term, Added, Alike}
+use Rattle.store.specs.Slots.{Shape, Shared, Alike}
+use Rattle.store.specs.Keys.{FitsIn, key_term, Added}
 use Rattle.store.proofs.Cases.{last_or_below, below_next}
 
 -- a node of the same kind and the same parts' terms is the same
@@ -99,11 +100,11 @@ module _ (vs ws : List ℕ) (n : ℕ) (key : Key) (w : Shape vs n) (r : Added vs
     fits = fits;
     tags = below_next (λ j. tag_of (kind_at ws j) ≤ 5) n
         (λ j m. let t = tag_old j m in let u = w.tags j m in omega arith)
-        (let t = tag in let u = f.tags in omega arith);
+        (let t = tag in let u = key.few in omega arith);
     below = λ i k l. below_next (λ j. k < arity_at ws j → part_at ws j k < j) n
         (λ j m a. let t = tag_old j m in let u = w.tags j m in
         let b = w.below j k m (omega arith) in let q = r.nodes j (k + 1) m (omega arith) in omega arith)
-        (λ a. let t = tag in let u = f.tags in let b = f.below k (omega arith) in let q = r.parts k (omega arith) in omega arith) i l;
+        (λ a. let t = tag in let u = key.few in let b = f.below k (omega arith) in let q = r.parts k (omega arith) in omega arith) i l;
   }
 
   pub stays : (i : ℕ) → i < n → term_of ws i ≡ term_of vs i
@@ -111,7 +112,7 @@ module _ (vs ws : List ℕ) (n : ℕ) (key : Key) (w : Shape vs n) (r : Added vs
 
   pub added_is : term_of ws n ≡ key_term vs key
   added_is = term_is ws (n + 1) n shape_added (omega arith)
-      ∙ slot_key vs ws n key kind (λ m a. let t = tag in let u = f.tags in
+      ∙ slot_key vs ws n key kind (λ m a. let t = tag in let u = key.few in
       ap (λ (x : ℕ). term_of ws x) (r.parts m (omega arith)) ∙ stays (get_or key.parts m 0) (f.below m (omega arith)))
 
   -- for a term that was not there

@@ -1,7 +1,8 @@
 -- Writing a row: the words so far, and the roots that hold the terms still to be written, the first uppermost.
 use Rattle.std.proofs.Common.{◌≡◌, ℕ, zero, suc, ◌+◌, ◌-◌, ◌*◌, ◌<◌, ◌≤◌, ◌≢◌, List, [], ◌∷◌, ◌++◌, length, get_or, take, set, Err, sym}
 use Rattle.std.proofs.Common.{refl, ap, ◌∙◌, ⊎_elim, append_assoc, append-nil, arith, length-append, length-set, length-take-le}
-use Rattle.std.proofs.Common.{get_or-set_other}
+use Rattle.std.proofs.Common.{get_or-set_other, Result, IsErrAnd}
+use Rattle.std.proofs.lemmas.Result.{err_from_is_err_and}
 use Rattle.std.proofs.lemmas.List.{take_more_set}
 use Rattle.rewriting.specs.Terms.{Term, letter, sign, Terms, none1, and1, count, size, sizes, glue}
 use Rattle.books.specs.Rows.{row, rows}
@@ -19,6 +20,10 @@ use Rattle.store.specs.Transfers.{inner, tag_word, number_word, PartsPushed, Sym
 use Rattle.store.specs.Transfers.{WrittenOrShort}
 use Rattle.store.proofs.Cases.{le_or_lt, last_or_below}
 use Rattle.store.proofs.Forests.{down_same, down_count}
+
+-- what a refused push comes to, where a row is written
+pub no_cell : {A : Type 0} (x : Result A Short) → IsErrAnd x (λ s. s ≡ NoCell) → x ≡ Err NoCell
+no_cell x h = let p = err_from_is_err_and x h in p.1 ∙ ap Err p.2
 
 -- pushing parts, from the last on
 pub pushed_none : (a : Store) (q : Roots) (i k n : ℕ) → HasRoots q.cells.now q.top → n ≡ 0 → PartsPushed a q i k n q

@@ -1,22 +1,21 @@
 -- What a collection keeps of a store.
-use Rattle.std.proofs.Common.{◌≡◌, ◌<◌, ◌≤◌, length, arith}
+use Rattle.std.proofs.Common.{◌≡◌, ◌≤◌, length, arith}
 use Rattle.store.specs.declared.types.Store.{Store}
 use Rattle.store.specs.declared.types.Roots.{Roots}
-use Rattle.store.specs.Chains.{Chains}
 use Rattle.store.specs.Roots.{root_at}
 use Rattle.store.specs.Slides.{Collected}
-use Rattle.store.specs.Stores.{Sound, note_in, old, Inside}
+use Rattle.store.specs.Stores.{note_in, old, Inside}
 use Rattle.store.specs.Making.{KeptOnly}
+use Rattle.store.proofs.Sounds.{sound_in}
 
 -- a, with the roots q, is collected to b, with the roots r
-pub kept_only : (a : Store) (q : Roots) (b : Store) (r : Roots) → Sound a → Inside a q →
+pub kept_only : (a : Store) (q : Roots) (b : Store) (r : Roots) → Inside a q →
     Collected a.words.now a.count (λ k. root_at q.cells.now k) q.top b.words.now b.count
     (λ k. root_at r.cells.now k) →
-    Chains b.mask b.words.now b.count → b.room ≡ a.room → length b.words.now ≡ length a.words.now →
-    r.top ≡ q.top → length r.cells.now ≡ length q.cells.now →
-    b.count ≤ b.limit → b.limit ≤ b.room → 0 < b.limit → (b.limit ≤ b.count → b.limit ≡ b.room) → KeptOnly a q b r
-kept_only a q b r s i k ch room long top cells within limited some full = record {
-  sound = record { shared = k.shared; chains = ch; fits = omega (arith, s.fits); within = within; limited = limited; some = some };
+    b.room ≡ a.room → r.top ≡ q.top → length r.cells.now ≡ length q.cells.now →
+    (b.limit ≤ b.count → b.limit ≡ b.room) → KeptOnly a q b r
+kept_only a q b r i k room top cells full = record {
+  sound = sound_in b;
   room = room;
   roots = record {
     top = top;

@@ -1,4 +1,5 @@
 -- Lemmas on cells, slots, chains and stores.
+pub mod Sounds
 pub mod Cases
 pub mod Writing
 pub mod Decoding

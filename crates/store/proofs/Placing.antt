@@ -7,13 +7,14 @@ use Rattle.rewriting.proofs.Different.{listed_same}
 use Rattle.store.specs.declared.types.Store.{Store}
 use Rattle.store.specs.declared.types.Roots.{Roots}
 use Rattle.store.specs.declared.types.Place.{Place}
-use Rattle.store.specs.declared.types.Key.{Key}
+use Rattle.store.specs.declared.keys.Key.{Key}
 use Rattle.store.specs.declared.types.Order.{Order}
 use Rattle.store.specs.declared.types.Order.TheVariants.{Up, Down}
 use Rattle.store.specs.declared.types.Full.{Full}
 use Rattle.store.specs.Cells.{cell, CellPut}
-use Rattle.store.specs.Slots.{tag_of, arity_of, kind_of, flag_of, note_at, parts_by, term_of, Shared, FitsIn, key_term, Added}
-use Rattle.store.specs.Chains.{Chains, Holds, Pushed}
+use Rattle.store.specs.Slots.{tag_of, arity_of, kind_of, flag_of, note_at, parts_by, Shared}
+use Rattle.store.specs.Keys.{FitsIn, key_term, Added}
+use Rattle.store.specs.Chains.{Chains, Holds, Pushed, OneMore}
 use Rattle.store.specs.Roots.{HasRoots}
 use Rattle.store.specs.Stacks.{root_in, StackedOn, in_order, Gathered}
 use Rattle.store.specs.Stores.{term_in, flag_in, note_in, Grown, NoteKept, new, old, Carried, held, parts_held, Inside}
@@ -23,17 +24,6 @@ use Rattle.store.proofs.Cases.{le_or_lt, below_next}
 use Rattle.store.proofs.Decoding.{added_is, stays, shared_added, shape_added, node_same}
 use Rattle.store.proofs.Telling.{unheld}
 use Rattle.store.proofs.Chaining.{added, chains_added, chains_kept}
-
--- the key is slot c, with no note, after the first c slots as they were
-pub record OneMore (mask : ℕ) (vs : List ℕ) (c : ℕ) (key : Key) (xs : List ℕ) : Type 0 where
-  pub shared : Shared xs (c + 1)
-  pub chains : Chains mask xs (c + 1)
-  pub term : term_of xs c ≡ key_term vs key
-  pub terms : (i : ℕ) → i < c → term_of xs i ≡ term_of vs i
-  pub flags : (i : ℕ) → i < c → flag_of (cell xs i 0) ≡ flag_of (cell vs i 0)
-  pub notes : (i : ℕ) → i < c → note_at xs i ≡ note_at vs i
-  pub new_flags : (i : ℕ) → c ≤ i → i < c + 1 → flag_of (cell xs i 0) ≡ flag_of key.head
-  pub new_notes : (i : ℕ) → c ≤ i → i < c + 1 → note_at xs i ≡ 0
 
 -- it is pushed into ws, and its note cleared in xs
 module _ (mask : ℕ) (vs : List ℕ) (c : ℕ) (key : Key) (ws xs : List ℕ) (w : Shared vs c) (ch : Chains mask vs c) (f : FitsIn key c)
@@ -155,7 +145,6 @@ pub gathered_fits : (b : Store) (head from1 : ℕ) (r : Roots) (o : Order) (key 
 gathered_fits b head from1 r o key g t l i =
     let e : tag_of (kind_of key.head) ≡ tag_of (kind_of head) = ap tag_of (ap kind_of g.same_head) in
     record {
-      tags = omega arith;
       below = λ k x. let m : k < arity_of (kind_of head) = omega arith in let z = g.parts k m in
           let y = i.low (in_order o from1 (arity_of (kind_of head)) k)
           (omega (arith, order_below o from1 (arity_of (kind_of head)) k m)) in

@@ -1,11 +1,14 @@
 -- Reading a row from its end on: the roots above the first ones hold the terms from symbol k on.
 use Rattle.std.proofs.Common.{◌≡◌, ℕ, suc, ◌+◌, ◌-◌, ◌*◌, ◌<◌, ◌≤◌, List, ◌∷◌, length, get_or, drop, Ok, Err, sym, refl, ap, ◌∙◌, subst}
-use Rattle.std.proofs.Common.{⊎_elim, append-nil, arith, get_or-drop}
+use Rattle.std.proofs.Common.{⊎_elim, append-nil, arith, rules, get_or-drop, Some, None, Option, IsSome}
 use mathlib.Core.Option.{some}
 use Rattle.rewriting.specs.Terms.{nth, Term, letter, sign, Terms, none1, and1, count, size, sizes, AnyLetter, AllOver}
 use Rattle.rewriting.specs.Rules.{Part}
 use Rattle.rewriting.specs.Different.{PartOf, of_first, of_later, listed}
 use Rattle.rewriting.proofs.Different.{part_trans, part_of_listed, part_in_listed, different_mono}
+use Rattle.books.specs.declared.words.Symbol.{Symbol}
+use Rattle.books.specs.declared.words.Symbol.TheVariants.{Letter, Sign}
+use Rattle.books.specs.Reading.{SymbolAt, tag, number}
 use Rattle.books.specs.Rows.{row, rows}
 use Rattle.books.specs.Layouts.{FewParts}
 use Rattle.books.proofs.Elements.{nth_below, nth_is}
@@ -17,9 +20,10 @@ use Rattle.store.specs.declared.types.Full.{Full}
 use Rattle.store.specs.declared.types.Full.TheVariants.{NoSlot, NoRoot}
 use Rattle.store.specs.Roots.{root_at}
 use Rattle.store.specs.Stacks.{CutTo}
-use Rattle.store.specs.Stores.{Sound, Carried, term_in, held, terms_down, Inside, RootsKept}
+use Rattle.store.specs.Stores.{Carried, term_in, held, terms_down, Inside, RootsKept}
 use Rattle.store.specs.Making.{Made}
 use Rattle.store.specs.Transfers.{RowOf, takes, symbol_term, Readable, Read}
+use Rattle.store.proofs.Sounds.{sound_in}
 use Rattle.store.proofs.Cases.{le_or_lt}
 use Rattle.store.proofs.Placing.{carried_then, carried_grown, grown_same}
 use Rattle.store.proofs.Forests.{after, after_rows, after_over, after_sizes, after_parts, down_same, down_count, down_one, down_split}
@@ -31,7 +35,6 @@ forest k t = after k (and1 t none1)
 
 -- from symbol k on t is read
 pub record SoFar (a : Store) (q : Roots) (t : Term) (k : ℕ) (b : Store) (r : Roots) : Type 0 where
-  pub sound : Sound b
   pub room : b.room ≡ a.room
   pub carried : Carried a b
   pub long : length r.cells.now ≡ length q.cells.now
@@ -40,15 +43,15 @@ pub record SoFar (a : Store) (q : Roots) (t : Term) (k : ℕ) (b : Store) (r : R
   pub kept : (j : ℕ) → j < q.top → held b r j ≡ held a q j
   pub is : terms_down b r q.top (r.top - q.top) ≡ after k (and1 t none1)
 
--- symbol k, with its two words, can be read: of the terms that it takes it makes the first term from there on, and leaves the others
-pub record Ready (ps : List ℕ) (base : ℕ) (b : Store) (r : Roots) (tag num : ℕ) (fs : Terms) : Type 0 where
+-- symbol k can be read: of the terms that it takes it makes the first term from there on, and leaves the others
+pub record Ready (ps : List ℕ) (base : ℕ) (b : Store) (r : Roots) (y : Symbol) (fs : Terms) : Type 0 where
   pub term : Term
   pub rest : Terms
   pub split : fs ≡ and1 term rest
-  pub readable : Readable ps r tag num
-  pub enough : takes ps tag num ≤ r.top - base
-  pub makes : symbol_term b r (takes ps tag num) tag num ≡ term
-  pub others : terms_down b r base (r.top - base - takes ps tag num) ≡ rest
+  pub readable : Readable ps r y
+  pub enough : takes ps y ≤ r.top - base
+  pub makes : symbol_term b r (takes ps y) y ≡ term
+  pub others : terms_down b r base (r.top - base - takes ps y) ≡ rest
 
 -- the words of a row
 pub symbols : {ps ws : List ℕ} {t : Term} → RowOf ps ws t → length ws ≡ 2 * size t
@@ -60,7 +63,7 @@ word_at ps ws t k i w =
     ∙ get_or-drop (2 * k) ws i 0
 
 module _ (ps : List ℕ) (few : FewParts ps) (base : ℕ) (b : Store) (r : Roots) (above : base ≤ r.top) where
-  ready_letter : (x : ℕ) (us : Terms) → terms_down b r base (r.top - base) ≡ us → Ready ps base b r 0 x (and1 (letter x) us)
+  ready_letter : (x : ℕ) (us : Terms) → terms_down b r base (r.top - base) ≡ us → Ready ps base b r (Letter x) (and1 (letter x) us)
   ready_letter x us e = record {
     term = letter x;
     rest = us;
@@ -72,7 +75,7 @@ module _ (ps : List ℕ) (few : FewParts ps) (base : ℕ) (b : Store) (r : Roots
   }
 
   ready_sign : (f : ℕ) (vs us : Terms) → nth ps f ≡ some (count vs) → terms_down b r base (r.top - base) ≡ after 1 (and1 (sign f vs) us) →
-      Ready ps base b r 1 f (and1 (sign f vs) us)
+      Ready ps base b r (Sign f) (and1 (sign f vs) us)
   ready_sign f vs us h e =
       let n : get_or ps f 0 ≡ count vs = nth_is ps f (count vs) 0 h in
       let low : f < length ps = nth_below ps f (count vs) h in
@@ -91,44 +94,63 @@ module _ (ps : List ℕ) (few : FewParts ps) (base : ℕ) (b : Store) (r : Roots
         others = ap (λ (m : ℕ). terms_down b r base (r.top - base - m)) n ∙ s.2;
       }
 
-  ready_by : (fs : Terms) (tag num : ℕ) → 0 < sizes fs → AllOver AnyLetter ps fs → get_or (rows fs) 0 0 ≡ tag → get_or (rows fs) 1 0 ≡ num →
-      terms_down b r base (r.top - base) ≡ after 1 fs → Ready ps base b r tag num fs
-  ready_by none1 tag num s o d e h = absurd (omega arith)
-  ready_by (and1 (letter x) us) tag num s o d e h =
-      subst (λ (w : ℕ). Ready ps base b r w num (and1 (letter x) us)) d
-      (subst (λ (w : ℕ). Ready ps base b r 0 w (and1 (letter x) us)) e (ready_letter x us h))
-  ready_by (and1 (sign f vs) us) tag num s o d e h =
-      subst (λ (w : ℕ). Ready ps base b r w num (and1 (sign f vs) us)) d
-      (subst (λ (w : ℕ). Ready ps base b r 1 w (and1 (sign f vs) us)) e (ready_sign f vs us o.0.0 h))
+  ready_by : (fs : Terms) (y : Symbol) → 0 < sizes fs → AllOver AnyLetter ps fs → get_or (rows fs) 0 0 ≡ tag y →
+      get_or (rows fs) 1 0 ≡ number y → terms_down b r base (r.top - base) ≡ after 1 fs → Ready ps base b r y fs
+  ready_by none1 y s o d e h = absurd (omega arith)
+  ready_by (and1 (letter x) us) (Letter z) s o d e h =
+      subst (λ (w : ℕ). Ready ps base b r (Letter w) (and1 (letter x) us)) e (ready_letter x us h)
+  ready_by (and1 (letter x) us) (Sign g) s o d e h = absurd (omega arith)
+  ready_by (and1 (sign f vs) us) (Letter z) s o d e h = absurd (omega arith)
+  ready_by (and1 (sign f vs) us) (Sign g) s o d e h =
+      subst (λ (w : ℕ). Ready ps base b r (Sign w) (and1 (sign f vs) us)) e (ready_sign f vs us o.0.0 h)
 
 -- symbol k is next
-pub record Turn (ps ws : List ℕ) (a : Store) (q : Roots) (t : Term) (k : ℕ) (b : Store) (r : Roots) : Type 0 where
+pub record Turn (ps : List ℕ) (a : Store) (q : Roots) (t : Term) (k : ℕ) (b : Store) (r : Roots) (y : Symbol) : Type 0 where
   pub low : k < size t
   pub so_far : SoFar a q t (suc k) b r
-  pub ready : Ready ps q.top b r (get_or ws (2 * k) 0) (get_or ws (2 * k + 1) 0) (after k (and1 t none1))
+  pub ready : Ready ps q.top b r y (after k (and1 t none1))
 
-turn_at : (ps ws : List ℕ) (a : Store) (q : Roots) (t : Term) (k : ℕ) (b : Store) (r : Roots) → FewParts ps → RowOf ps ws t → k < size t →
-    SoFar a q t (suc k) b r → Turn ps ws a q t k b r
-turn_at ps ws a q t k b r few w l s =
-    let z : 2 * k + 0 ≡ 2 * k = omega arith in
-    record {
-      low = l;
-      so_far = s;
-      ready = ready_by ps few q.top b r s.above (forest k t) (get_or ws (2 * k) 0) (get_or ws (2 * k + 1) 0)
-          (omega (arith, after_sizes k (and1 t none1) (omega arith))) (after_over AnyLetter ps k (and1 t none1) (w.fits, tt))
-          (word_at ps ws t k 0 w ∙ ap (λ (i : ℕ). get_or ws i 0) z) (word_at ps ws t k 1 w) s.is;
-    }
+module _ (ps ws : List ℕ) (a : Store) (q : Roots) (t : Term) (k : ℕ) (b : Store) (r : Roots) (few : FewParts ps) (w : RowOf ps ws t)
+    (l : k < size t) (s : SoFar a q t (suc k) b r) where
+  first_word : get_or (rows (forest k t)) 0 0 ≡ get_or ws (2 * k) 0
+  first_word = let z : 2 * k + 0 ≡ 2 * k = omega arith in word_at ps ws t k 0 w ∙ ap (λ (i : ℕ). get_or ws i 0) z
+
+  turn_at : (y : Symbol) → SymbolAt ws (2 * k) (Some y) → Turn ps a q t k b r y
+  turn_at y h = record {
+    low = l;
+    so_far = s;
+    ready = ready_by ps few q.top b r s.above (forest k t) y
+        (omega (arith, after_sizes k (and1 t none1) (omega arith))) (after_over AnyLetter ps k (and1 t none1) (w.fits, tt))
+        (first_word ∙ h.1) (word_at ps ws t k 1 w ∙ h.2) s.is;
+  }
 
 pub turn : (ps ws : List ℕ) (a : Store) (q : Roots) (t : Term) (n : ℕ) (b : Store) (r : Roots) → FewParts ps → RowOf ps ws t →
-    0 < n → 2 * n ≤ length ws → SoFar a q t n b r → Turn ps ws a q t (n - 1) b r
-turn ps ws a q t n b r few w p l s =
+    0 < n → 2 * n ≤ length ws → SoFar a q t n b r → (x : Option Symbol) (y : Symbol) → x ≡ Some y → SymbolAt ws (2 * (n - 1)) x →
+    Turn ps a q t (n - 1) b r y
+turn ps ws a q t n b r few w p l s x y d h =
     let e : n ≡ suc (n - 1) = omega arith in
-    turn_at ps ws a q t (n - 1) b r few w (omega (arith, symbols w)) (subst (λ (i : ℕ). SoFar a q t i b r) e s)
+    turn_at ps ws a q t (n - 1) b r few w (omega (arith, symbols w)) (subst (λ (i : ℕ). SoFar a q t i b r) e s) y
+    (subst (λ (z : Option Symbol). SymbolAt ws (2 * (n - 1)) z) d h)
+
+-- there is a symbol wherever a row goes on
+low_tag : (fs : Terms) → 0 < sizes fs → get_or (rows fs) 0 0 < 2
+low_tag none1 s = absurd (omega arith)
+low_tag (and1 (letter x) us) s = omega arith
+low_tag (and1 (sign f vs) us) s = omega arith
+
+pub symbol_there : (ps ws : List ℕ) (t : Term) (n : ℕ) → RowOf ps ws t → 0 < n → 2 * n ≤ length ws → (x : Option Symbol) →
+    SymbolAt ws (2 * (n - 1)) x → IsSome x
+symbol_there ps ws t n w p l (Some y) h = search rules
+symbol_there ps ws t n w p l None h =
+    let z : 2 * (n - 1) + 0 ≡ 2 * (n - 1) = omega arith in
+    let e = word_at ps ws t (n - 1) 0 w ∙ ap (λ (i : ℕ). get_or ws i 0) z in
+    let d = low_tag (forest (n - 1) t) (omega (arith, after_sizes (n - 1) (and1 t none1) (omega (arith, symbols w)), symbols w)) in
+    let m = h (omega arith) in
+    absurd (omega arith)
 
 -- before the first symbol that is read
-pub so_far_none : (a : Store) (q : Roots) (t : Term) (k : ℕ) → Sound a → Inside a q → k ≡ size t → SoFar a q t k a q
-so_far_none a q t k s i e = record {
-  sound = s;
+pub so_far_none : (a : Store) (q : Roots) (t : Term) (k : ℕ) → Inside a q → k ≡ size t → SoFar a q t k a q
+so_far_none a q t k i e = record {
   room = refl;
   carried = carried_grown a a (grown_same a);
   long = refl;
@@ -141,15 +163,14 @@ so_far_none a q t k s i e = record {
 }
 
 -- one symbol more
-module _ (ps : List ℕ) (a : Store) (q : Roots) (t : Term) (k : ℕ) (b : Store) (r : Roots) (s : SoFar a q t (suc k) b r) (tag num : ℕ)
-    (h : Ready ps q.top b r tag num (after k (and1 t none1))) (l : k < size t) (d : Store) (u : Roots) where
+module _ (ps : List ℕ) (a : Store) (q : Roots) (t : Term) (k : ℕ) (b : Store) (r : Roots) (s : SoFar a q t (suc k) b r) (y : Symbol)
+    (h : Ready ps q.top b r y (after k (and1 t none1))) (l : k < size t) (d : Store) (u : Roots) where
   pub read_more : (x : Unit {0}) →
-      Made b r (r.top - takes ps tag num) (symbol_term b r (takes ps tag num) tag num) d u (Ok x) → SoFar a q t k d u
+      Made b r (r.top - takes ps y) (symbol_term b r (takes ps y) y) d u (Ok x) → SoFar a q t k d u
   read_more x m = let v = m.roots in
-      let from1 : r.top - takes ps tag num ≡ q.top + (r.top - q.top - takes ps tag num) = omega (arith, h.enough, s.above) in
-      let n : u.top - q.top ≡ suc (r.top - q.top - takes ps tag num) = omega (arith, v.top, h.enough, s.above) in
+      let from1 : r.top - takes ps y ≡ q.top + (r.top - q.top - takes ps y) = omega (arith, h.enough, s.above) in
+      let n : u.top - q.top ≡ suc (r.top - q.top - takes ps y) = omega (arith, v.top, h.enough, s.above) in
       record {
-        sound = m.sound;
         room = m.room ∙ s.room;
         carried = carried_then a b d s.carried m.carried;
         long = v.long ∙ s.long;
@@ -157,8 +178,8 @@ module _ (ps : List ℕ) (a : Store) (q : Roots) (t : Term) (k : ℕ) (b : Store
         above = omega (arith, v.top, h.enough, s.above);
         kept = λ j z. v.terms j (omega (arith, h.enough, s.above)) ∙ s.kept j z;
         is = ap (λ (i : ℕ). terms_down d u q.top i) n
-            ∙ ap (λ (i : ℕ). and1 (held d u i) (terms_down d u q.top (r.top - q.top - takes ps tag num))) (sym from1)
-            ∙ ap (λ (y : Term). and1 y (terms_down d u q.top (r.top - q.top - takes ps tag num))) (v.term ∙ h.makes)
+            ∙ ap (λ (i : ℕ). and1 (held d u i) (terms_down d u q.top (r.top - q.top - takes ps y))) (sym from1)
+            ∙ ap (λ (z : Term). and1 z (terms_down d u q.top (r.top - q.top - takes ps y))) (v.term ∙ h.makes)
             ∙ ap (and1 h.term) (down_same b d r u q.top _ (λ j z. v.terms j (omega arith)) ∙ h.others)
             ∙ sym h.split;
       }
@@ -189,14 +210,14 @@ module _ (ps : List ℕ) (a : Store) (q : Roots) (t : Term) (k : ℕ) (b : Store
       (λ z. of_later (part_of_listed (λ i. held a q i) q.top j v z (subst (λ (x : Term). Part v x) (s.kept j z) h.2)))
       (le_or_lt q.top j)
 
-  few_roots : r.top - takes ps tag num + 1 ≤ q.top + size t
+  few_roots : r.top - takes ps y + 1 ≤ q.top + size t
   few_roots =
       let c : count (after k (and1 t none1)) ≡ 1 + count h.rest = ap count h.split in
-      let e : count h.rest ≡ r.top - q.top - takes ps tag num = ap count (sym h.others) ∙ down_count b r q.top _ in
+      let e : count h.rest ≡ r.top - q.top - takes ps y = ap count (sym h.others) ∙ down_count b r q.top _ in
       omega (arith, count_sizes (after k (and1 t none1)), after_sizes k (and1 t none1) (omega arith), h.enough, s.above)
 
   pub read_stops : (f : Full) (w : Roots) →
-      Made b r (r.top - takes ps tag num) (symbol_term b r (takes ps tag num) tag num) d u (Err f) → CutTo u q.top w →
+      Made b r (r.top - takes ps y) (symbol_term b r (takes ps y) y) d u (Err f) → CutTo u q.top w →
       Read a q t d w (Err f)
   read_stops NoSlot w m c = record {
     sound = m.sound;
@@ -220,7 +241,7 @@ pub read_done : (a : Store) (q : Roots) (t : Term) (b : Store) (r : Roots) (x : 
 read_done a q t b r x s =
     let o = down_one b r q.top (r.top - q.top) t s.is in
     record {
-      sound = s.sound;
+      sound = sound_in b;
       room = s.room;
       carried = s.carried;
       roots = record { top = omega (arith, o.0); long = s.long; inside = s.inside; terms = s.kept; term = o.1 };

@@ -1,37 +1,32 @@
 -- A sign shared by places of its parts; room made for more slots.
-use Rattle.std.proofs.Common.{◌≡◌, ℕ, zero, suc, ◌+◌, ◌-◌, ◌<◌, ◌≤◌, Bool, true, false, leb, List, [], ◌∷◌, get_or, Some, Option, sym}
-use Rattle.std.proofs.Common.{refl, ap, ◌∙◌, subst, arith, leb-false, leb-true}
+use Rattle.std.proofs.Common.{◌≡◌, ℕ, zero, suc, ◌+◌, ◌-◌, ◌<◌, ◌≤◌, List, [], ◌∷◌, get_or, Some, Ok, Err, Option, Result, sym}
+use Rattle.std.proofs.Common.{refl, ap, ◌∙◌, subst, arith}
 use Rattle.rewriting.specs.Terms.{Term, sign}
 use Rattle.store.specs.declared.types.Store.{Store}
 use Rattle.store.specs.declared.types.Roots.{Roots}
 use Rattle.store.specs.declared.types.Place.{Place}
-use Rattle.store.specs.Slots.{kind_of, tag_of, symbol_of, node}
-use Rattle.store.specs.Stores.{Sound, term_in, new, old, Carried, Inside, RootsKept}
+use Rattle.store.specs.Slots.{kind_of, tag_of, symbol_of, flag_of, note_at, term_of, node}
+use Rattle.store.specs.declared.types.Full.{Full}
+use Rattle.store.specs.declared.types.Full.TheVariants.{NoSlot}
+use Rattle.store.specs.Cells.{cell}
+use Rattle.store.specs.Stacks.{root_in}
+use Rattle.store.specs.Stores.{term_in, note_in, old, Carried, Inside, RootsKept}
 use Rattle.store.specs.Making.{Interned, KeptOnly, terms_at, Space, Reserved}
-use Rattle.store.proofs.Placing.{grown_same, carried_grown, roots_same}
+use Rattle.store.proofs.Sounds.{sound_in}
+use Rattle.store.proofs.Placing.{grown_same, carried_grown, carried_then, roots_same, roots_then}
 use Rattle.store.proofs.Decoding.{parts_by_same}
 use Rattle.store.proofs.Viewing.{node_sign}
 
 abbrev zero_place : Place
 zero_place = record { 0 = 0 }
 
--- the numbers of four places
-abbrev pub numbers : List Place → List ℕ
-numbers ps = (get_or ps 0 zero_place).0 ∷ (get_or ps 1 zero_place).0 ∷ (get_or ps 2 zero_place).0 ∷ (get_or ps 3 zero_place).0 ∷ []
-
-pub number_at : (ps : List Place) (k : ℕ) → k < 4 → get_or (numbers ps) k 0 ≡ (get_or ps k zero_place).0
-number_at ps zero l = refl
-number_at ps (suc zero) l = refl
-number_at ps (suc (suc zero)) l = refl
-number_at ps (suc (suc (suc zero))) l = refl
-number_at ps (suc (suc (suc (suc k)))) l = absurd (omega arith)
-
--- the sign with them as parts
-pub sign_of : (a : Store) (head f : ℕ) (ps : List Place) (n : ℕ) → n ≤ 4 → tag_of (kind_of head) ≡ n + 1 → symbol_of (kind_of head) ≡ f →
-    node (λ j. term_in a j) (kind_of head) (λ k. get_or (numbers ps) k 0) ≡ sign f (terms_at a ps n)
-sign_of a head f ps n l t s = node_sign (λ j. term_in a j) (kind_of head) (λ k. get_or (numbers ps) k 0) f n t s
-    ∙ ap (sign f) (parts_by_same (λ j. term_in a j) (λ j. term_in a j) (λ k. get_or (numbers ps) k 0) (λ k. (get_or ps k zero_place).0) 0 n
-    (λ k h i. ap (λ (j : ℕ). term_in a j) (number_at ps k (omega arith))))
+-- the sign with the places of these numbers as parts
+pub sign_of : (a : Store) (head f : ℕ) (ps : List Place) (ns : List ℕ) (n : ℕ) → ((k : ℕ) → k < n → get_or ns k 0 ≡ (get_or ps k zero_place).0) →
+    tag_of (kind_of head) ≡ n + 1 → symbol_of (kind_of head) ≡ f →
+    node (λ j. term_in a j) (kind_of head) (λ k. get_or ns k 0) ≡ sign f (terms_at a ps n)
+sign_of a head f ps ns n h t s = node_sign (λ j. term_in a j) (kind_of head) (λ k. get_or ns k 0) f n t s
+    ∙ ap (sign f) (parts_by_same (λ j. term_in a j) (λ j. term_in a j) (λ k. get_or ns k 0) (λ k. (get_or ps k zero_place).0) 0 n
+    (λ k l i. ap (λ (j : ℕ). term_in a j) (h k (omega arith))))
 
 -- a place that was found or added
 pub found_at : (a b : Store) (t u : Term) (x : Option Place) (p : Place) → x ≡ Some p → Interned a b t x → t ≡ u →
@@ -42,9 +37,9 @@ pub new_is : (i : ℕ) (x : Option Place) (p : Place) → x ≡ Some p → x ≡
 new_is i x p e d = let z : p ≡ record { 0 = i } = cc in ap (λ (q : Place). q.0) (sym z)
 
 -- there was space
-pub reserved_same : (a : Store) (q : Roots) (n : ℕ) → Sound a → Inside a q → a.count + n ≤ a.limit → Reserved a q n a q true
-reserved_same a q n s i l = record {
-  sound = s;
+pub reserved_same : (a : Store) (q : Roots) (n : ℕ) → Inside a q → a.count + n ≤ a.limit → Reserved a q n a q (Ok tt)
+reserved_same a q n i l = record {
+  sound = sound_in a;
   room = refl;
   carried = carried_grown a a (grown_same a);
   roots = roots_same a q i;
@@ -52,50 +47,48 @@ reserved_same a q n s i l = record {
   same = λ _. (refl, refl);
 }
 
--- another limit changes neither flags and notes nor roots
-abbrev limited_to : Store → ℕ → Store
-limited_to b l = record { words = b.words; room = b.room; limit = l; mask = b.mask; count = b.count }
+-- all the room is the limit now, and nothing else is changed
+pub record AllLimit (b d : Store) : Type 0 where
+  pub words : d.words.now ≡ b.words.now
+  pub room : d.room ≡ b.room
+  pub count : d.count ≡ b.count
+  pub limit : d.limit ≡ b.room
 
-carried_limited : (a b : Store) (l : ℕ) → Carried a b → Carried a (limited_to b l)
-carried_limited a b l f m h = elim (f m h) [
-  | new s z ↦ new s z
-  | old i low t s k ↦ old i low t s k
-]
+carried_limited : (b d : Store) → AllLimit b d → Carried b d
+carried_limited b d e m l =
+    let note : note_in d m ≡ note_in b m = ap (λ (ws : List ℕ). note_at ws m) e.words in
+    old m (omega (arith, e.count)) (ap (λ (ws : List ℕ). term_of ws m) e.words) (ap (λ (ws : List ℕ). flag_of (cell ws m 0)) e.words)
+    (λ h. (
+      omega arith,
+      λ z. (
+        omega (arith, e.count),
+        ap (λ (ws : List ℕ). term_of ws (note_in d m - 1)) e.words ∙ ap (λ (x : ℕ). term_in b (x - 1)) note,
+      ),
+    ))
 
-roots_limited : (a : Store) (q : Roots) (b : Store) (r : Roots) (l : ℕ) → RootsKept a q b r → RootsKept a q (limited_to b l) r
-roots_limited a q b r l k = record {
-  top = k.top;
-  long = k.long;
-  inside = record { fits = k.inside.fits; low = k.inside.low };
-  terms = k.terms;
+roots_limited : (b d : Store) (r : Roots) → AllLimit b d → Inside b r → RootsKept b r d r
+roots_limited b d r e i = record {
+  top = refl;
+  long = refl;
+  inside = record { fits = i.fits; low = λ k l. omega (arith, i.low k l, e.count) };
+  terms = λ k l. ap (λ (ws : List ℕ). term_of ws (root_in r k)) e.words;
 }
 
--- with all the room as the limit there is space, or the roots hold too much
-pub reserved_all : (a : Store) (q : Roots) (n : ℕ) (b : Store) (r : Roots) (x : Bool) → KeptOnly a q b r → a.limit < a.count + n →
-    leb n (b.room - b.count) ≡ x → Reserved a q n (limited_to b b.room) r x
-reserved_all a q n b r x k l e = record {
-  sound = record {
-    shared = s.shared;
-    chains = s.chains;
-    fits = s.fits;
-    within = omega (arith, s.within, s.limited);
-    limited = omega arith;
-    some = omega (arith, s.some, s.limited);
-  };
-  room = k.room;
-  carried = carried_limited a b b.room k.carried;
-  roots = roots_limited a q b r b.room k.roots;
-  space = space x e;
-  same = λ h. absurd (omega arith);
-}
-  where
-    s : Sound b
-    s = k.sound
+-- all that the reserving of space with all the room as the limit comes to, but whether there is space
+module _ (a : Store) (q : Roots) (n : ℕ) (b : Store) (r : Roots) (d : Store) (k : KeptOnly a q b r) (l : a.limit < a.count + n)
+    (e : AllLimit b d) where
+  reserved : (x : Result (Unit {0}) Full) → Space a q n d x → Reserved a q n d r x
+  reserved x s = record {
+    sound = sound_in d;
+    room = e.room ∙ k.room;
+    carried = carried_then a b d k.carried (carried_limited b d e);
+    roots = roots_then a b d q r r k.roots (roots_limited b d r e k.roots.inside);
+    space = s;
+    same = λ h. absurd (omega arith);
+  }
 
-    space : (x : Bool) → leb n (b.room - b.count) ≡ x → Space a q n (limited_to b b.room) x
-    space true e = omega (arith, leb-true n (b.room - b.count) e, s.within, s.limited)
-    space false e =
-        let l = leb-false n (b.room - b.count) e in
-        let c = k.count in
-        let m = k.room in
-        omega (arith, s.within, s.limited)
+  pub reserved_all : n ≤ b.room - b.count → Reserved a q n d r (Ok tt)
+  reserved_all h = reserved (Ok tt) (omega (arith, k.sound.within, k.sound.limited, e.count, e.limit))
+
+  pub reserved_none : b.room - b.count < n → Reserved a q n d r (Err NoSlot)
+  reserved_none h = reserved (Err NoSlot) (refl, omega (arith, k.count, k.room))

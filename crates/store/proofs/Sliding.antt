@@ -1,8 +1,9 @@
 -- Sliding: the marked slots below i are the first n, and one more of them follows.
 use Rattle.std.proofs.Common.{◌≡◌, ℕ, ◌+◌, ◌-◌, ◌*◌, ◌<◌, ◌≤◌, List, length, get_or, sym, refl, ap, ◌∙◌, subst, arith}
-use Rattle.store.specs.declared.types.Key.{Key}
+use Rattle.store.specs.declared.keys.Key.{Key}
 use Rattle.store.specs.Cells.{cell, CellPut}
-use Rattle.store.specs.Slots.{tag_of, kind_of, kind_at, arity_at, part_at, note_at, term_of, Shared, FitsIn, key_term, Added}
+use Rattle.store.specs.Slots.{tag_of, kind_of, kind_at, arity_at, part_at, note_at, term_of, Shared}
+use Rattle.store.specs.Keys.{FitsIn, key_term, Added}
 use Rattle.store.specs.Chains.{Chains, Pushed}
 use Rattle.store.specs.Marks.{Marked, Closed}
 use Rattle.store.specs.Slides.{Translated, Moved, Came, Slid}
@@ -76,7 +77,6 @@ module _ (vs : List ℕ) (c : ℕ) (w : Shared vs c) (cl : Closed vs c) (i : ℕ
 
   key_fits : FitsIn key n
   key_fits = record {
-    tags = let e = key_tag in let u = five in omega arith;
     below = λ k a. let e = key_tag in let b : k < arity_at vs i = omega arith in
         let q = key_part k b in let m = part_to k b in omega (arith, m.some, m.inside);
   }

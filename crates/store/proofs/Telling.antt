@@ -1,9 +1,10 @@
 -- A term tells its kind and its parts' terms, so that no slot stands for the term of a key that none holds.
 use Rattle.std.proofs.Common.{◌≡◌, ℕ, zero, suc, ◌+◌, ◌-◌, ◌<◌, ◌≤◌, List, get_or, sym, refl, ap, ◌∙◌, subst, ⊎_elim, eq-or-lt_of_le, arith}
 use Rattle.rewriting.specs.Terms.{Term}
-use Rattle.store.specs.declared.types.Key.{Key}
+use Rattle.store.specs.declared.keys.Key.{Key}
 use Rattle.store.specs.Slots.{symbol_of, tag_of, arity_of, kind_of, kind_at, part_at, parts_by, node_by, node, term_of}
-use Rattle.store.specs.Slots.{Shape, Shared, FitsIn, key_term}
+use Rattle.store.specs.Slots.{Shape, Shared}
+use Rattle.store.specs.Keys.{FitsIn, key_term}
 use Rattle.store.specs.Chains.{Holds}
 use Rattle.store.proofs.Cases.{le_or_lt}
 use Rattle.store.proofs.Decoding.{term_is, slot_key}

@@ -5,8 +5,8 @@ use Rattle.store.specs.Cells.{cell, CellPut}
 use Rattle.store.specs.Slots.{symbol_of, tag_of, kind_of, flag_of, kind_at, parts_by, node_by, node, term_of, Shared, Alike}
 use Rattle.store.specs.Chains.{Chains}
 use Rattle.store.proofs.Cases.{eq_or}
-use Rattle.store.proofs.Decoding.{term_alike, shared_alike}
-use Rattle.store.proofs.Chaining.{chains_alike}
+use Rattle.store.proofs.Decoding.{alike, term_alike, shared_alike}
+use Rattle.store.proofs.Chaining.{chains_alike, chains_kept}
 
 pub node_letter : (d : ℕ → Term) (k : ℕ) (p : ℕ → ℕ) (x : ℕ) → tag_of k ≡ 0 → symbol_of k ≡ x → node d k p ≡ letter x
 unfolding node
@@ -58,3 +58,22 @@ module _ (vs ws : List ℕ) (c mask i h : ℕ) (w : Shared vs c) (ch : Chains ma
     flag = ap flag_of head ∙ flag_flagged _;
     flags = λ j l n. ap flag_of (p.rest j 0 (omega arith) (λ a b. n a));
   }
+
+-- a note is set, and nothing else is changed
+pub record Noted (vs ws : List ℕ) (c mask : ℕ) : Type 0 where
+  pub shared : Shared ws c
+  pub chains : Chains mask ws c
+  pub terms : (j : ℕ) → j < c → term_of ws j ≡ term_of vs j
+  pub flags : (j : ℕ) → j < c → flag_of (cell ws j 0) ≡ flag_of (cell vs j 0)
+
+pub noted : (vs ws : List ℕ) (c mask i v : ℕ) → Shared vs c → Chains mask vs c → CellPut vs i 7 v ws → length ws ≡ length vs →
+    Noted vs ws c mask
+noted vs ws c mask i v w ch p long =
+    let same : (j k : ℕ) → k < 7 → cell ws j k ≡ cell vs j k = λ j k l. p.rest j k (omega arith) (λ q m. omega arith) in
+    let like : Alike vs ws c = alike vs ws c (λ j k l m. same j k (omega arith)) in
+    record {
+      shared = shared_alike vs ws c w long like;
+      chains = chains_kept mask vs ws c ch w.shape long same;
+      terms = term_alike vs ws c w.shape like;
+      flags = λ j l. ap flag_of (same j 0 (omega arith));
+    }

@@ -1,9 +1,10 @@
--- Cells in lent words: a slot is eight cells, and a cell is two words, the low one first.
-use Rattle.std.specs.Prelude.{◌≡◌, ℕ, ◌+◌, ◌*◌, ◌<◌, ◌≤◌, List, length, ◌≢◌, slice_index}
+-- Cells in lent words: a slot is eight cells, each a number of two words.
+use Rattle.std.specs.Prelude.{◌≡◌, ℕ, ◌+◌, ◌*◌, ◌<◌, ◌≤◌, List, length, ◌≢◌}
+use Rattle.store.specs.Numbers.{number_in}
 
 -- cell k of slot i
 unfoldable pub cell : List ℕ → ℕ → ℕ → ℕ
-cell ws i k = slice_index ws (16 * i + 2 * k) + 4294967296 * slice_index ws (16 * i + 2 * k + 1)
+cell ws i k = number_in ws (16 * i + 2 * k)
 
 -- slot i is there
 abbrev pub HasSlot : List ℕ → ℕ → Type 0

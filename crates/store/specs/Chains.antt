@@ -1,8 +1,9 @@
 -- Chains: each slot links to the one before it in its bucket, and each bucket to its last slot. Links are slot numbers plus 1.
 use Rattle.std.specs.Prelude.{◌≡◌, ℕ, zero, suc, ◌+◌, ◌-◌, ◌*◌, ◌/◌, ◌%◌, ◌<◌, ◌≤◌, List, Some, None, Option, ◌≢◌, bit_and, slice_index}
-use Rattle.store.specs.declared.types.Key.{Key}
+use Rattle.store.specs.declared.keys.Key.{Key}
 use Rattle.store.specs.Cells.{cell, HasSlot}
-use Rattle.store.specs.Slots.{kind_of, arity_of, kind_at, part_at, link_at, last_at, note_at}
+use Rattle.store.specs.Slots.{kind_of, flag_of, arity_of, kind_at, part_at, link_at, last_at, note_at, term_of, Shared}
+use Rattle.store.specs.Keys.{key_term}
 
 -- the hash of a kind k and its parts p 0, p 1, ..: each is added, and the sum multiplied by 2^64 over the golden ratio
 unfoldable pub mix_of : ℕ → ℕ → ℕ
@@ -60,3 +61,14 @@ pub record Pushed (mask : ℕ) (vs : List ℕ) (n : ℕ) (key : Key) (ws : List 
   pub last : last_at ws (key_bucket mask key) ≡ n + 1
   pub lasts : (b : ℕ) → (b ≢ key_bucket mask key) → last_at ws b ≡ last_at vs b
   pub notes : (j : ℕ) → note_at ws j ≡ note_at vs j
+
+-- the key is slot c, with no note, after the first c slots as they were
+pub record OneMore (mask : ℕ) (vs : List ℕ) (c : ℕ) (key : Key) (xs : List ℕ) : Type 0 where
+  pub shared : Shared xs (c + 1)
+  pub chains : Chains mask xs (c + 1)
+  pub term : term_of xs c ≡ key_term vs key
+  pub terms : (i : ℕ) → i < c → term_of xs i ≡ term_of vs i
+  pub flags : (i : ℕ) → i < c → flag_of (cell xs i 0) ≡ flag_of (cell vs i 0)
+  pub notes : (i : ℕ) → i < c → note_at xs i ≡ note_at vs i
+  pub new_flags : (i : ℕ) → c ≤ i → i < c + 1 → flag_of (cell xs i 0) ≡ flag_of key.head
+  pub new_notes : (i : ℕ) → c ≤ i → i < c + 1 → note_at xs i ≡ 0

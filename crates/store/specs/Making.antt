@@ -1,5 +1,5 @@
 -- What comes of making terms and of collecting.
-use Rattle.std.specs.Prelude.{◌≡◌, ℕ, ◌+◌, ◌<◌, ◌≤◌, min, Bool, true, false, List, length, Some, None, Ok, Err, Option, Result}
+use Rattle.std.specs.Prelude.{◌≡◌, ℕ, ◌+◌, ◌<◌, ◌≤◌, min, List, length, Some, None, Ok, Err, Option, Result}
 use Rattle.std.specs.Prelude.{slice_index_or}
 use Rattle.rewriting.specs.Terms.{Term, Terms, letter, sign}
 use Rattle.store.specs.declared.types.Store.{Store}
@@ -94,12 +94,12 @@ pub record LetterShared (a : Store) (x : ℕ) (b : Store) (p : Place) : Type 0 w
   pub new : (i : ℕ) → a.count ≤ i → i < b.count → i ≡ p.0
 
 -- there is space for n more slots below the limit; or what the roots hold leaves no room for them
-abbrev pub Space : Store → Roots → ℕ → Store → Bool → Type 0
-Space a q n b true = b.count + n ≤ b.limit
-Space a q n b false = a.room < parts_held a q + n
+abbrev pub Space : Store → Roots → ℕ → Store → Result (Unit {0}) Full → Type 0
+Space a q n b (Ok _) = b.count + n ≤ b.limit
+Space a q n b (Err f) = (f ≡ NoSlot) × (a.room < parts_held a q + n)
 
 -- that, with the roots kept; nothing is changed where there was space before
-pub record Reserved (a : Store) (q : Roots) (n : ℕ) (b : Store) (r : Roots) (x : Bool) : Type 0 where
+pub record Reserved (a : Store) (q : Roots) (n : ℕ) (b : Store) (r : Roots) (x : Result (Unit {0}) Full) : Type 0 where
   pub sound : Sound b
   pub room : b.room ≡ a.room
   pub carried : Carried a b

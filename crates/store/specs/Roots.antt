@@ -1,8 +1,9 @@
--- Roots: a cell of two words for each, the low one first.
-use Rattle.std.specs.Prelude.{◌≡◌, ℕ, ◌+◌, ◌*◌, ◌≤◌, List, length, ◌≢◌, slice_index}
+-- Roots: a number of two words for each.
+use Rattle.std.specs.Prelude.{◌≡◌, ℕ, ◌*◌, ◌≤◌, List, length, ◌≢◌}
+use Rattle.store.specs.Numbers.{number_in}
 
 unfoldable pub root_at : List ℕ → ℕ → ℕ
-root_at qs k = slice_index qs (2 * k) + 4294967296 * slice_index qs (2 * k + 1)
+root_at qs k = number_in qs (2 * k)
 
 -- n roots fit
 abbrev pub HasRoots : List ℕ → ℕ → Type 0

@@ -2,7 +2,7 @@
 use Rattle.std.specs.Prelude.{◌≡◌, ℕ, ◌-◌, ◌<◌, ◌≤◌, List, slice_index}
 use Rattle.rewriting.specs.Rules.{Part}
 use Rattle.rewriting.specs.Different.{different, listed}
-use Rattle.store.specs.declared.types.Key.{Key}
+use Rattle.store.specs.declared.keys.Key.{Key}
 use Rattle.store.specs.Cells.{cell}
 use Rattle.store.specs.Slots.{flag_of, arity_at, part_at, note_at, term_of, Shared}
 use Rattle.store.specs.Marks.{Marked}

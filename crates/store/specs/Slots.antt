@@ -3,7 +3,6 @@
 -- Cell 7 is a note, free between collections; a collection has there a mark, and then where the slot moved to.
 use Rattle.std.specs.Prelude.{◌≡◌, ℕ, zero, suc, ◌+◌, ◌-◌, ◌*◌, ◌/◌, ◌%◌, ◌<◌, ◌≤◌, Bool, List, length, ◌≢◌, nat_le, slice_index}
 use Rattle.rewriting.specs.Terms.{Term, letter, sign, Terms, none1, and1}
-use Rattle.store.specs.declared.types.Key.{Key}
 use Rattle.store.specs.Cells.{cell}
 
 -- a kind: the number of the letter or sign below 2^32; above it 0 for a letter, n + 1 for a sign of n parts
@@ -73,32 +72,10 @@ pub record Shared (ws : List ℕ) (c : ℕ) : Type 0 where
   pub shape : Shape ws c
   pub once : (i j : ℕ) → i < j → j < c → term_of ws i ≢ term_of ws j
 
--- what a slot is found by: its parts stand below c
-pub record FitsIn (key : Key) (c : ℕ) : Type 0 where
-  pub tags : tag_of (kind_of key.head) ≤ 5
-  pub below : (k : ℕ) → k < arity_of (kind_of key.head) → slice_index key.parts k < c
-
--- the term that it stands for
-abbrev pub key_term : List ℕ → Key → Term
-key_term ws key = node (λ j. term_of ws j) (kind_of key.head) (λ k. slice_index key.parts k)
-
 -- the first k parts of slot n are written, and no other cell
 pub record PartsWritten (vs : List ℕ) (n : ℕ) (ps : List ℕ) (k : ℕ) (ws : List ℕ) : Type 0 where
   pub parts : (m : ℕ) → m < k → part_at ws n m ≡ slice_index ps m
   pub rest : (j m : ℕ) → m < 8 → (j ≡ n → 1 ≤ m → m < 5 → ⊥) → cell ws j m ≡ cell vs j m
-
--- head, parts and link of slot n are written, and no other cell
-pub record SlotWritten (vs : List ℕ) (n : ℕ) (key : Key) (l : ℕ) (ws : List ℕ) : Type 0 where
-  pub head : cell ws n 0 ≡ key.head
-  pub parts : (k : ℕ) → k < 4 → part_at ws n k ≡ slice_index key.parts k
-  pub link : link_at ws n ≡ l
-  pub rest : (j m : ℕ) → m < 8 → (j ≡ n → m < 6 → ⊥) → cell ws j m ≡ cell vs j m
-
--- slot n has a head and parts, and the slots below it what they had
-pub record Added (vs : List ℕ) (n : ℕ) (key : Key) (ws : List ℕ) : Type 0 where
-  pub nodes : (j k : ℕ) → j < n → k < 5 → cell ws j k ≡ cell vs j k
-  pub head : cell ws n 0 ≡ key.head
-  pub parts : (k : ℕ) → k < 4 → part_at ws n k ≡ slice_index key.parts k
 
 -- the first c slots have the same kinds and parts
 pub record Alike (vs ws : List ℕ) (c : ℕ) : Type 0 where

@@ -1,12 +1,12 @@
 -- The stack of roots by itself.
-use Rattle.std.specs.Prelude.{◌≡◌, ℕ, ◌+◌, ◌-◌, ◌<◌, length, Ok, Err, Result, ◌≢◌, slice_index}
+use Rattle.std.specs.Prelude.{◌≡◌, ℕ, ◌+◌, ◌-◌, ◌<◌, ◌≤◌, List, length, Ok, Err, Result, ◌≢◌, slice_index}
 use Rattle.store.specs.declared.types.Roots.{Roots}
-use Rattle.store.specs.declared.types.Key.{Key}
+use Rattle.store.specs.declared.keys.Key.{Key}
 use Rattle.store.specs.declared.types.Full.{Full}
 use Rattle.store.specs.declared.types.Full.TheVariants.{NoRoot}
 use Rattle.store.specs.declared.types.Order.{Order}
 use Rattle.store.specs.declared.types.Order.TheVariants.{Up, Down}
-use Rattle.store.specs.Slots.{kind_of, arity_of}
+use Rattle.store.specs.Slots.{kind_of, arity_of, note_at}
 use Rattle.store.specs.Roots.{root_at, HasRoots}
 
 -- root k
@@ -46,3 +46,15 @@ in_order Down from1 n k = from1 + (n - 1 - k)
 pub record Gathered (head : ℕ) (r : Roots) (o : Order) (from1 : ℕ) (key : Key) : Type 0 where
   pub same_head : key.head ≡ head
   pub parts : (k : ℕ) → k < arity_of (kind_of head) → slice_index key.parts k ≡ root_in r (in_order o from1 (arity_of (kind_of head)) k)
+
+-- the roots are slots below c
+pub record RootsIn (r : Roots) (c : ℕ) : Type 0 where
+  pub fits : HasRoots r.cells.now r.top
+  pub low : (k : ℕ) → k < r.top → root_in r k < c
+
+-- the first n roots are where the notes say that their slots moved to, and the others are as they were
+pub record RootsMoved (ws : List ℕ) (q : Roots) (n : ℕ) (r : Roots) : Type 0 where
+  pub long : length r.cells.now ≡ length q.cells.now
+  pub top : r.top ≡ q.top
+  pub moved : (k : ℕ) → k < n → root_in r k ≡ note_at ws (root_in q k) - 1
+  pub rest : (k : ℕ) → n ≤ k → root_in r k ≡ root_in q k

@@ -1,7 +1,9 @@
 -- What comes of reading a row into a store and of writing one out.
-use Rattle.std.specs.Prelude.{◌≡◌, ℕ, zero, suc, ◌+◌, ◌-◌, ◌*◌, ◌<◌, ◌≤◌, List, ◌∷◌, length, take, Ok, Err, Result, slice_index, slice_set}
+use Rattle.std.specs.Prelude.{◌≡◌, ℕ, ◌+◌, ◌-◌, ◌*◌, ◌<◌, ◌≤◌, List, ◌∷◌, length, take, Ok, Err, Result, slice_index, slice_set}
 use Rattle.rewriting.specs.Terms.{Term, letter, sign, Terms, none1, count, size, Fits}
 use Rattle.rewriting.specs.Different.{different, listed}
+use Rattle.books.specs.declared.words.Symbol.{Symbol}
+use Rattle.books.specs.declared.words.Symbol.TheVariants.{Letter, Sign}
 use Rattle.books.specs.Rows.{row}
 use Rattle.store.specs.declared.types.Store.{Store}
 use Rattle.store.specs.declared.types.Roots.{Roots}
@@ -20,19 +22,19 @@ pub record RowOf (ps ws : List ℕ) (t : Term) : Type 0 where
   pub written : row t ≡ ws
   pub fits : Fits ps t
 
--- how many parts a symbol of two words takes from the roots, and the term that it makes of them
-abbrev pub takes : List ℕ → ℕ → ℕ → ℕ
-takes ps zero x = 0
-takes ps (suc w) x = slice_index ps x
+-- how many parts a symbol takes from the roots, and the term that it makes of them
+abbrev pub takes : List ℕ → Symbol → ℕ
+takes ps (Letter x) = 0
+takes ps (Sign f) = slice_index ps f
 
-abbrev pub symbol_term : Store → Roots → ℕ → ℕ → ℕ → Term
-symbol_term a r n zero x = letter x
-symbol_term a r n (suc w) x = sign x (terms_down a r (r.top - n) n)
+abbrev pub symbol_term : Store → Roots → ℕ → Symbol → Term
+symbol_term a r n (Letter x) = letter x
+symbol_term a r n (Sign f) = sign f (terms_down a r (r.top - n) n)
 
 -- a symbol can be read: if it is a sign, it is of the signature, and its parts stand on the roots
-abbrev pub Readable : List ℕ → Roots → ℕ → ℕ → Type 0
-Readable ps r zero x = Unit {0}
-Readable ps r (suc w) x = (x < length ps) × (slice_index ps x ≤ 4) × (slice_index ps x ≤ r.top)
+abbrev pub Readable : List ℕ → Roots → Symbol → Type 0
+Readable ps r (Letter x) = Unit {0}
+Readable ps r (Sign f) = (f < length ps) × (slice_index ps f ≤ 4) × (slice_index ps f ≤ r.top)
 
 -- one more root, which holds t; or the roots as they were, where the different parts of t and of what the roots hold fill the store,
 -- or where there are not as many cells for roots as t has letters and signs

@@ -1,11 +1,13 @@
 // Chains of slots by hash: finding the slot of a key, and adding one.
-ghost use Rattle.std.specs.Prelude.{◌≡◌, ◌+◌, ◌<◌, ◌≤◌, true, false};
+ghost use Rattle.std.specs.Prelude.{◌≡◌, ◌+◌, ◌<◌, ◌≤◌, true, false, None};
 ghost use Rattle.store.specs.Cells.{HasSlot};
-ghost use Rattle.store.specs.Slots.{kind_of, tag_of, Shape, FitsIn};
-ghost use Rattle.store.specs.Chains.{mix_of, key_bucket, Chains, Found, Holds, Pushed};
+ghost use Rattle.store.specs.Slots.{Shared};
+ghost use Rattle.store.specs.Keys.{FitsIn};
+ghost use Rattle.store.specs.Chains.{mix_of, key_bucket, Chains, Found, Holds, Pushed, OneMore};
 
-use crate::slots::{HEAD, LAST, LINK, arity, get, kind, part, put, put_slot};
-use crate::types::Key;
+use crate::keys::Key;
+use crate::slots::{HEAD, LAST, LINK, NOTE, arity, get, kind, part, put, put_slot};
+use crate::types::Store;
 
 const WORD_BITS: usize = 32;
 
@@ -20,57 +22,71 @@ fn mix(h: usize, x: usize) -> usize
 
 // The bucket of a key.
 fn bucket(mask: usize, key: &Key) -> usize
-    requires { tag_of (kind_of key.now.head) ≤ 5 }
     ensures is { result ≡ key_bucket mask key.now }
     ensures low { result ≤ mask }
 {
     let kind = kind(key.head);
     let mut h = mix(kind, 0);
-    for k in 0..arity(kind) {
-        h = mix(h, key.parts[k]);
+    for &p in &key.parts[..arity(kind)] {
+        h = mix(h, p);
     }
     h >> WORD_BITS & mask
 }
 
 // Whether slot i is what the key says.
 fn holds(ws: &[u32], i: usize, key: &Key) -> bool
-    requires { (HasSlot ws.now i) × (tag_of (kind_of key.now.head) ≤ 5) }
+    requires { HasSlot ws.now i }
     ensures yes { result ≡ true → Holds ws.now i key.now }
     ensures no { result ≡ false → Holds ws.now i key.now → ⊥ }
 {
     if kind(get(ws, i, HEAD)) != kind(key.head) {
         return false;
     }
-    for k in 0..arity(kind(key.head)) {
-        if part(ws, i, k) != key.parts[k] {
+    for (k, &p) in key.parts[..arity(kind(key.head))].iter().enumerate() {
+        if part(ws, i, k) != p {
             return false;
         }
     }
     true
 }
 
-// The slot of a key, among the first `count`.
-pub fn find(ws: &[u32], count: usize, mask: usize, key: &Key) -> Option<usize>
-    requires { (Shape ws.now count) × ((Chains mask ws.now count) × (FitsIn key.now count)) }
-    ensures { Found ws.now count key.now result }
-{
-    let mut next = get(ws, bucket(mask, key), LAST);
-    while next != 0 {
-        if holds(ws, next - 1, key) {
-            return Some(next - 1);
+impl Store<'_> {
+    // The slot of a key.
+    pub(crate) fn find(&self, key: &Key) -> Option<usize>
+        requires { FitsIn key.now self.now.count }
+        ensures { Found self.now.words.now self.now.count key.now result }
+    {
+        let mut next = get(self.words, bucket(self.mask, key), LAST);
+        while next != 0 {
+            if holds(self.words, next - 1, key) {
+                return Some(next - 1);
+            }
+            next = get(self.words, next - 1, LINK);
         }
-        next = get(ws, next - 1, LINK);
+        None
     }
-    None
 }
+
+// What follows stays over words, a number of slots and a mask: between these writes the words are no store.
 
 // Writes a key into slot n, at the end of its bucket.
 pub fn push(ws: &mut [u32], n: usize, mask: usize, key: &Key)
-    requires { (HasSlot ws.old n) × ((HasSlot ws.old mask) × (tag_of (kind_of key.now.head) ≤ 5)) }
+    requires { (HasSlot ws.old n) × (HasSlot ws.old mask) }
     ensures { Pushed mask ws.old n key.now ws.new }
 {
     let b = bucket(mask, key);
     let last = get(ws, b, LAST);
     put_slot(ws, n, key, last);
     put(ws, b, LAST, n + 1);
+}
+
+// Adds a key that no slot has as slot n, with no note.
+pub fn add(ws: &mut [u32], n: usize, mask: usize, key: &Key)
+    requires shared { (Shared ws.old n) × (Chains mask ws.old n) }
+    requires new { (FitsIn key.now n) × (Found ws.old n key.now None) }
+    requires room { HasSlot ws.old n }
+    ensures { OneMore mask ws.old n key.now ws.new }
+{
+    push(ws, n, mask, key);
+    put(ws, n, NOTE, 0);
 }

@@ -6,12 +6,14 @@ ghost use Rattle.store.specs.Slots.{kind_at, tag_of, arity_at, part_at, last_at,
 ghost use Rattle.store.specs.Chains.{Chains};
 ghost use Rattle.store.specs.Marks.{Closed, MarkedToo, AllMarked, RootsMarked};
 ghost use Rattle.store.specs.Slides.{Translated, Slid, Collected};
-ghost use Rattle.store.specs.Roots.{root_at, HasRoots};
+ghost use Rattle.store.specs.Roots.{HasRoots};
+ghost use Rattle.store.specs.Stacks.{root_in, RootsIn, RootsMoved};
 
 use crate::chains::push;
-use crate::roots::{root, set_root};
+use crate::keys::Key;
 use crate::slots::{HEAD, LAST, NOTE, arity_at, clear, get, part, put};
-use crate::types::Key;
+use crate::types::{Place, Roots};
+use std::array;
 
 fn mark_parts(ws: &mut [u32], count: usize, i: usize)
     requires { (Shape ws.old count) × (i < count) }
@@ -35,24 +37,24 @@ fn mark_reached(ws: &mut [u32], count: usize)
     }
 }
 
-fn mark_roots(ws: &mut [u32], count: usize, cells: &[u32], top: usize)
-    requires count_in_bounds { (16 * count ≤ length ws.old) × (HasRoots cells.now top) }
-    requires by_index { (k : ℕ) → k < top → root_at cells.now k < count }
-    ensures { MarkedToo (λ k. root_at cells.now k) top ws.old ws.new }
+fn mark_roots(ws: &mut [u32], count: usize, roots: &Roots)
+    requires count_in_bounds { 16 * count ≤ length ws.old }
+    requires roots { RootsIn roots.now count }
+    ensures { MarkedToo (λ k. root_in roots.now k) roots.now.top ws.old ws.new }
 {
-    for k in 0..top {
-        put(ws, root(cells, k), NOTE, 1);
+    for k in 0..roots.top {
+        put(ws, roots.place(k).0, NOTE, 1);
     }
 }
 
 // Marks what the roots reach, and nothing else.
-fn mark(ws: &mut [u32], count: usize, cells: &[u32], top: usize)
-    requires shape { (Shape ws.old count) × (HasRoots cells.now top) }
-    requires by_index { (k : ℕ) → k < top → root_at cells.now k < count }
-    ensures { RootsMarked ws.old count (λ k. root_at cells.now k) top ws.new }
+fn mark(ws: &mut [u32], count: usize, roots: &Roots)
+    requires shape { Shape ws.old count }
+    requires roots { RootsIn roots.now count }
+    ensures { RootsMarked ws.old count (λ k. root_in roots.now k) roots.now.top ws.new }
 {
     clear(ws, count, NOTE);
-    mark_roots(ws, count, cells, top);
+    mark_roots(ws, count, roots);
     mark_reached(ws, count);
 }
 
@@ -80,12 +82,7 @@ fn translated(ws: &[u32], i: usize) -> Key
     let n = arity_at(ws, i);
     Key {
         head: get(ws, i, HEAD),
-        parts: [
-            moved_part(ws, i, n, 0),
-            moved_part(ws, i, n, 1),
-            moved_part(ws, i, n, 2),
-            moved_part(ws, i, n, 3),
-        ],
+        parts: array::from_fn(|k| moved_part(ws, i, n, k)),
     }
 }
 
@@ -108,30 +105,32 @@ fn slide(ws: &mut [u32], count: usize, mask: usize) -> usize
     n
 }
 
-fn move_roots(cells: &mut [u32], top: usize, ws: &[u32])
-    requires has_roots { HasRoots cells.old top }
-    requires by_index { (k : ℕ) → k < top → HasSlot ws.now (root_at cells.old k) × (0 < note_at ws.now (root_at cells.old k)) }
-    ensures { (k : ℕ) → k < top →
-        root_at cells.new k ≡ note_at ws.now (root_at cells.old k) - 1 }
+fn move_roots(roots: &mut Roots, ws: &[u32])
+    requires has_roots { HasRoots roots.old.cells.now roots.old.top }
+    requires by_index { (k : ℕ) → k < roots.old.top →
+        HasSlot ws.now (root_in roots.old k) × (0 < note_at ws.now (root_in roots.old k)) }
+    ensures { RootsMoved ws.now roots.old roots.old.top roots.new }
 {
-    for k in 0..top {
-        let p = root(cells, k);
-        set_root(cells, k, get(ws, p, NOTE) - 1);
+    for k in 0..roots.top {
+        let p = roots.place(k);
+        roots.set(k, Place(get(ws, p.0, NOTE) - 1));
     }
 }
 
 // Keeps what the roots reach, chained by a mask; says how many slots that is.
-pub fn compact(ws: &mut [u32], count: usize, mask: usize, cells: &mut [u32], top: usize) -> usize
-    requires shared { (Shared ws.old count) × ((HasSlot ws.old mask) × (HasRoots cells.old top)) }
-    requires by_index { (k : ℕ) → k < top → root_at cells.old k < count }
+pub fn compact(ws: &mut [u32], count: usize, mask: usize, roots: &mut Roots) -> usize
+    requires shared { (Shared ws.old count) × (HasSlot ws.old mask) }
+    requires roots { RootsIn roots.old count }
     ensures chains { Chains mask ws.new result }
-    ensures kept { Collected ws.old count (λ k. root_at cells.old k) top
-        ws.new result (λ k. root_at cells.new k) }
+    ensures kept { Collected ws.old count (λ k. root_in roots.old k) roots.old.top
+        ws.new result (λ k. root_in roots.new k) }
+    ensures top { roots.new.top ≡ roots.old.top }
+    ensures long { length roots.new.cells.now ≡ length roots.old.cells.now }
 {
-    mark(ws, count, cells, top);
+    mark(ws, count, roots);
     clear(ws, mask + 1, LAST);
     let n = slide(ws, count, mask);
-    move_roots(cells, top, ws);
+    move_roots(roots, ws);
     clear(ws, n, NOTE);
     n
 }

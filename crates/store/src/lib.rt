@@ -3,7 +3,9 @@
 
 mod chains;
 mod collect;
+mod keys;
 mod make;
+mod numbers;
 mod roots;
 mod rows;
 mod slots;

@@ -1,16 +1,18 @@
 // Making terms: a term's place is found or added, and a full store is collected first.
 ghost use Rattle.std.specs.Prelude.{◌≡◌, ℕ, ◌+◌, ◌-◌, ◌*◌, ◌/◌, ◌^◌, ◌<◌, ◌≤◌, false, length, Some};
 ghost use Rattle.rewriting.specs.Terms.{letter, sign};
-ghost use Rattle.store.specs.Slots.{kind_of, tag_of, arity_of, flag_of, FitsIn, key_term};
-ghost use Rattle.store.specs.Chains.{Found};
-ghost use Rattle.store.specs.Stores.{Sound, Grown, Carried, Inside, RootsKept, terms_up, terms_down};
+ghost use Rattle.store.specs.Slots.{kind_of, tag_of, arity_of, flag_of};
+ghost use Rattle.store.specs.Keys.{FitsIn, key_term};
+ghost use Rattle.store.specs.Chains.{Chains, Found};
+ghost use Rattle.store.specs.Stores.{Grown, Carried, Inside, RootsKept, terms_up, terms_down};
 ghost use Rattle.store.specs.Making.{Opened, Interned, KeptOnly, root_term, Placed, Made, Reserved};
 ghost use Rattle.store.specs.Making.{PartsInside, SignShared, LetterShared, Emptied};
 
-use crate::chains::{find, push};
+use crate::chains::add;
 use crate::collect::compact;
-use crate::slots::{LAST, NOTE, SLOT, clear, letter_head, put, sign_head};
-use crate::types::{Full, Key, Order, Place, Roots, Store};
+use crate::keys::Key;
+use crate::slots::{LAST, SLOT, clear, letter_head, sign_head};
+use crate::types::{Full, Order, Place, Plan, Roots, Store};
 
 // How many slots a store has before its first collection, so that short work stays in the cache.
 const FIRST_LIMIT: usize = 16384;
@@ -25,11 +27,29 @@ fn mask_below(n: usize) -> usize
     ensures half { n ≤ 2 * result + 2 }
     ensures form { (k : ℕ) × (result + 1 ≡ 2 ^ k) }
 {
-    let mut mask = 0usize;
-    while mask < n - 1 - mask {
-        mask = 2 * mask + 1;
-    }
+    (1 << n.ilog2()) - 1
+}
+
+// Empties the buckets of a store with this limit; says what their mask is.
+fn empty(ws: &mut [u32], limit: usize) -> usize
+    requires { (16 * limit ≤ length ws.old) × (0 < limit) }
+    ensures { Chains result ws.new 0 }
+{
+    let mask = mask_below(limit);
+    clear(ws, mask + 1, LAST);
     mask
+}
+
+impl Plan {
+    fn new(head: usize, from: usize, order: Order) -> Plan
+        requires few { tag_of (kind_of head) ≤ 5 }
+        requires unflagged { flag_of head ≡ false }
+        ensures head { result.head ≡ head }
+        ensures from { result.from ≡ from }
+        ensures order { result.order ≡ order }
+    {
+        Plan { head, from, order }
+    }
 }
 
 impl<'a> Store<'a> {
@@ -41,51 +61,32 @@ impl<'a> Store<'a> {
         if room == 0 {
             return None;
         }
-        let mut store = Store {
+        let limit = room.min(FIRST_LIMIT);
+        let mask = empty(words, limit);
+        Some(Store {
             words,
             room,
-            limit: room,
-            mask: 0,
+            limit,
+            mask,
             count: 0,
-        };
-        store.empty(FIRST_LIMIT);
-        Some(store)
+        })
     }
 }
 
 impl Store<'_> {
-    // Drops all terms, and sets a limit, or all the room if that is less.
-    fn empty(&mut self, limit: usize)
-        requires { (16 * self.old.room ≤ length self.old.words.now) × ((0 < self.old.room) × (0 < limit)) }
-        ensures { Emptied self.old limit self.new }
-    {
-        let limit = self.room.min(limit);
-        let mask = mask_below(limit);
-        clear(self.words, mask + 1, LAST);
-        self.limit = limit;
-        self.mask = mask;
-        self.count = 0;
-    }
-
     // Drops all terms. The limit is small then, whatever it was.
     pub fn clear(&mut self)
-        requires { Sound self.old }
         ensures { Emptied self.old 512 self.new }
     {
-        self.empty(CLEARED_LIMIT);
-    }
-
-    fn find(&self, key: &Key) -> Option<usize>
-        requires { (Sound self.now) × (FitsIn key.now self.now.count) }
-        ensures { Found self.now.words.now self.now.count key.now result }
-    {
-        find(self.words, self.count, self.mask, key)
+        let limit = self.room.min(CLEARED_LIMIT);
+        self.mask = empty(self.words, limit);
+        self.limit = limit;
+        self.count = 0;
     }
 
     // The place of a key's term, which is added if there is none; none at the limit.
     fn intern(&mut self, key: &Key) -> Option<Place>
-        requires { (Sound self.old) × ((FitsIn key.now self.old.count) × (flag_of key.now.head ≡ false)) }
-        ensures sound { Sound self.new }
+        requires { (FitsIn key.now self.old.count) × (flag_of key.now.head ≡ false) }
         ensures grown { Grown self.old self.new }
         ensures few { self.new.count ≤ self.old.count + 1 }
         ensures place { Interned self.old self.new
@@ -96,12 +97,10 @@ impl Store<'_> {
             return Some(Place(i));
         }
         let n = self.count;
-        let mask = self.mask;
         if n >= self.limit {
             return None;
         }
-        push(self.words, n, mask, key);
-        put(self.words, n, NOTE, 0);
+        add(self.words, n, self.mask, key);
         self.count = n + 1;
         Some(Place(n))
     }
@@ -109,119 +108,108 @@ impl Store<'_> {
     // Keeps what the roots hold and drops the rest. If that is more than a quarter of the limit, the limit is doubled, as far as there is
     // room.
     pub fn collect(&mut self, roots: &mut Roots)
-        requires { (Sound self.old) × (Inside self.old roots.old) }
+        requires { Inside self.old roots.old }
         ensures { KeptOnly self.old roots.old self.new roots.new }
     {
-        let count = self.count;
-        let limit = self.limit;
-        let larger = self.room.min(2 * limit);
-        let mask = mask_below(limit);
-        let top = roots.top;
-        let n = compact(self.words, count, mask, roots.cells, top);
-        self.count = n;
+        let mask = mask_below(self.limit);
+        let n = compact(self.words, self.count, mask, roots);
         self.mask = mask;
-        if n > limit / 4 {
-            self.limit = larger;
+        self.count = n;
+        if n > self.limit / 4 {
+            self.limit = self.room.min(2 * self.limit);
         }
     }
 
-    // The place of the term with this head and the roots from one on as parts; none if what the roots hold fills the store.
-    fn place(&mut self, roots: &mut Roots, head: usize, from: usize, order: Order) -> Option<Place>
-        requires sound_2 { (Sound self.old) × ((Inside self.old roots.old) × (flag_of head ≡ false)) }
-        requires head_bound { (tag_of (kind_of head) ≤ 5) × (from + arity_of (kind_of head) ≡ roots.old.top) }
-        ensures sound { Sound self.new }
+    // The place of a term to be made; none if what the roots hold fills the store.
+    fn place(&mut self, roots: &mut Roots, plan: Plan) -> Option<Place>
+        requires inside { Inside self.old roots.old }
+        requires last { plan.from + arity_of (kind_of plan.head) ≡ roots.old.top }
         ensures room { self.new.room ≡ self.old.room }
         ensures carried { Carried self.old self.new }
         ensures roots { RootsKept self.old roots.old self.new roots.new }
         ensures place { Placed self.old roots.old self.new
-            (root_term self.old head roots.old order from) result }
+            (root_term self.old plan.head roots.old plan.order plan.from) result }
     {
-        let key = roots.gather(head, from, order);
+        let key = roots.gather(plan);
         if let Some(p) = self.intern(&key) {
             return Some(p);
         }
         self.collect(roots);
-        let moved = roots.gather(head, from, order);
+        let moved = roots.gather(plan);
         self.intern(&moved)
     }
 
-    // Puts the term with this head in place of the roots that are its parts, from one on.
-    fn make(
-        &mut self,
-        roots: &mut Roots,
-        head: usize,
-        from: usize,
-        order: Order,
-    ) -> Result<(), Full>
-        requires sound { (Sound self.old) × ((Inside self.old roots.old) × (flag_of head ≡ false)) }
-        requires head_bound { (tag_of (kind_of head) ≤ 5) × (from + arity_of (kind_of head) ≡ roots.old.top) }
-        ensures { Made self.old roots.old from
-            (root_term self.old head roots.old order from)
+    // Puts a term to be made in place of the roots that are its parts.
+    fn make(&mut self, roots: &mut Roots, plan: Plan) -> Result<(), Full>
+        requires inside { Inside self.old roots.old }
+        requires last { plan.from + arity_of (kind_of plan.head) ≡ roots.old.top }
+        ensures { Made self.old roots.old plan.from
+            (root_term self.old plan.head roots.old plan.order plan.from)
             self.new roots.new result }
     {
-        if roots.cells.len() / 2 <= from {
+        if roots.cells.len() / 2 <= plan.from {
             return Err(Full::NoRoot);
         }
-        match self.place(roots, head, from, order) {
-            Some(p) => {
-                roots.stack(from, p);
-                Ok(())
-            }
-            None => Err(Full::NoSlot),
-        }
+        let p = self.place(roots, plan).ok_or(Full::NoSlot)?;
+        roots.stack(plan.from, p);
+        Ok(())
     }
 
     // One more root, which holds a letter.
     pub fn make_letter(&mut self, roots: &mut Roots, x: u32) -> Result<(), Full>
-        requires { (Sound self.old) × (Inside self.old roots.old) }
+        requires { Inside self.old roots.old }
         ensures { Made self.old roots.old roots.old.top (letter x)
             self.new roots.new result }
     {
-        let top = roots.top;
-        self.make(roots, letter_head(x), top, Order::Up)
+        let from = roots.top;
+        self.make(roots, Plan::new(letter_head(x), from, Order::Up))
     }
 
     // A sign with the last n roots as parts, in their place. The lowest is the first part.
     pub fn make_sign(&mut self, roots: &mut Roots, f: u32, n: usize) -> Result<(), Full>
-        requires { (Sound self.old) × ((Inside self.old roots.old) × ((n ≤ 4) × (n ≤ roots.old.top))) }
+        requires { (Inside self.old roots.old) × ((n ≤ 4) × (n ≤ roots.old.top)) }
         ensures { Made self.old roots.old (roots.old.top - n)
             (sign f (terms_up self.old roots.old (roots.old.top - n) n))
             self.new roots.new result }
     {
         let from = roots.top - n;
-        self.make(roots, sign_head(f, n), from, Order::Up)
+        self.make(roots, Plan::new(sign_head(f, n), from, Order::Up))
     }
 
     // The same, with the uppermost root as the first part.
     pub fn make_sign_down(&mut self, roots: &mut Roots, f: u32, n: usize) -> Result<(), Full>
-        requires { (Sound self.old) × ((Inside self.old roots.old) × ((n ≤ 4) × (n ≤ roots.old.top))) }
+        requires { (Inside self.old roots.old) × ((n ≤ 4) × (n ≤ roots.old.top)) }
         ensures { Made self.old roots.old (roots.old.top - n)
             (sign f (terms_down self.old roots.old (roots.old.top - n) n))
             self.new roots.new result }
     {
         let from = roots.top - n;
-        self.make(roots, sign_head(f, n), from, Order::Down)
+        self.make(roots, Plan::new(sign_head(f, n), from, Order::Down))
     }
 
-    // Sees to it that n more slots are below the limit, by a collection if need be; no if what the roots hold leaves no room for them.
-    pub fn reserve(&mut self, roots: &mut Roots, n: usize) -> bool
-        requires { (Sound self.old) × (Inside self.old roots.old) }
+    // Sees to it that n more slots are below the limit, by a collection if need be; refused if what the roots hold leaves no room for them.
+    pub fn reserve(&mut self, roots: &mut Roots, n: usize) -> Result<(), Full>
+        requires { Inside self.old roots.old }
         ensures { Reserved self.old roots.old n self.new roots.new result }
     {
         if n <= self.limit - self.count {
-            return true;
+            return Ok(());
         }
         self.collect(roots);
         if n <= self.limit - self.count {
-            return true;
+            return Ok(());
         }
         self.limit = self.room;
-        n <= self.room - self.count
+        if n <= self.room - self.count {
+            Ok(())
+        } else {
+            Err(Full::NoSlot)
+        }
     }
 
     // The place of a letter, below the limit.
     pub fn share_letter(&mut self, x: u32) -> Place
-        requires { (Sound self.old) × (self.old.count < self.old.limit) }
+        requires { self.old.count < self.old.limit }
         ensures { LetterShared self.old x self.new result }
     {
         let key = Key {
@@ -233,13 +221,13 @@ impl Store<'_> {
 
     // The place of the sign f with the first n places as parts, below the limit.
     pub fn share_sign(&mut self, f: u32, parts: [Place; 4], n: usize) -> Place
-        requires { (Sound self.old) × ((n ≤ 4) × ((PartsInside self.old parts n) × (self.old.count < self.old.limit))) }
+        requires { (n ≤ 4) × ((PartsInside self.old parts n) × (self.old.count < self.old.limit)) }
         ensures shared { SignShared self.old f parts n self.new result }
         ensures new { (i : ℕ) → self.old.count ≤ i → i < self.new.count → i ≡ result.0 }
     {
         let key = Key {
             head: sign_head(f, n),
-            parts: [parts[0].0, parts[1].0, parts[2].0, parts[3].0],
+            parts: parts.map(|p| p.0),
         };
         self.intern(&key).unwrap()
     }

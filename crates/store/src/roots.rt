@@ -1,26 +1,28 @@
 // Roots in lent words: the stack of places that are kept.
 ghost use Rattle.std.specs.Prelude.{◌≡◌, ◌+◌, ◌-◌, ◌*◌, ◌^◌, ◌<◌, ◌≤◌};
-ghost use Rattle.store.specs.Slots.{kind_of, tag_of, arity_of};
+ghost use Rattle.store.specs.Slots.{kind_of, arity_of};
 ghost use Rattle.store.specs.Roots.{root_at, HasRoots, RootPut};
 ghost use Rattle.store.specs.Stacks.{root_in, StackedOn, PushedOrFull, RootSet, CutTo, in_order, Gathered};
 
-use crate::slots::{WORD, arity, kind};
-use crate::types::{Full, Key, Order, Place, Roots};
+use crate::keys::Key;
+use crate::numbers::{number_at, put_number};
+use crate::slots::{arity, kind};
+use crate::types::{Full, Order, Place, Plan, Roots};
+use std::array;
 
 // Root k.
 pub fn root(cells: &[u32], k: usize) -> usize
     requires { HasRoots cells.now (k + 1) }
     ensures { result ≡ root_at cells.now k }
 {
-    cells[2 * k] as usize + WORD * (cells[2 * k + 1] as usize)
+    number_at(cells, 2 * k)
 }
 
 pub fn set_root(cells: &mut [u32], k: usize, v: usize)
     requires { HasRoots cells.old (k + 1) }
     ensures { RootPut cells.old k v cells.new }
 {
-    cells[2 * k] = (v % WORD) as u32;
-    cells[2 * k + 1] = (v / WORD) as u32;
+    put_number(cells, 2 * k, v);
 }
 
 impl Order {
@@ -92,16 +94,20 @@ impl Roots<'_> {
         self.top = n;
     }
 
-    // The key with this head and the roots from one on as parts.
-    pub fn gather(&self, head: usize, from: usize, order: Order) -> Key
-        requires { (tag_of (kind_of head) ≤ 5) × (HasRoots self.now.cells.now (from + arity_of (kind_of head))) }
-        ensures { Gathered head self.now order from result }
+    // The key of a term to be made.
+    pub(crate) fn gather(&self, plan: Plan) -> Key
+        requires { HasRoots self.now.cells.now (plan.from + arity_of (kind_of plan.head)) }
+        ensures { Gathered plan.head self.now plan.order plan.from result }
     {
-        let mut parts = [0; 4];
+        let Plan { head, from, order } = plan;
         let n = arity(kind(head));
-        for k in 0..n {
-            parts[k] = self.place(order.at(from, n, k)).0;
-        }
+        let parts = array::from_fn(|k| {
+            if k < n {
+                self.place(order.at(from, n, k)).0
+            } else {
+                0
+            }
+        });
         Key { head, parts }
     }
 }

@@ -3,43 +3,39 @@ ghost use Rattle.std.specs.Prelude.{◌≡◌, ◌+◌, ◌-◌, ◌<◌, ◌≤
 ghost use Rattle.rewriting.specs.Terms.{Term};
 ghost use Rattle.books.specs.Layouts.{FewParts};
 ghost use Rattle.store.specs.Roots.{HasRoots};
-ghost use Rattle.store.specs.Stores.{Sound, term_in, arity_in, Inside};
+ghost use Rattle.store.specs.Stores.{term_in, arity_in, Inside};
 ghost use Rattle.store.specs.Making.{Made};
 ghost use Rattle.store.specs.Transfers.{RowOf, takes, symbol_term, Readable, Read};
 ghost use Rattle.store.specs.Transfers.{PartsOrFull, SymbolOrShort, RootsBelow, WrittenOrShort};
 
 use crate::types::{Full, Node, Place, Roots, Short, Store};
+use books::words::{Symbol, symbol_at};
 
 impl Store<'_> {
     // Makes the term of a symbol whose parts stand on the roots, the first uppermost.
-    fn read_symbol(
-        &mut self,
-        roots: &mut Roots,
-        parts: &[u32],
-        tag: u32,
-        number: u32,
-    ) -> Result<(), Full>
-        requires { (Sound self.old) × ((Inside self.old roots.old) × (Readable parts.now roots.old tag number)) }
-        ensures { Made self.old roots.old (roots.old.top - takes parts.now tag number)
-            (symbol_term self.old roots.old (takes parts.now tag number) tag number)
+    fn read_symbol(&mut self, roots: &mut Roots, parts: &[u32], symbol: Symbol) -> Result<(), Full>
+        requires { (Inside self.old roots.old) × (Readable parts.now roots.old symbol) }
+        ensures { Made self.old roots.old (roots.old.top - takes parts.now symbol)
+            (symbol_term self.old roots.old (takes parts.now symbol) symbol)
             self.new roots.new result }
     {
-        if tag == 0 {
-            return self.make_letter(roots, number);
+        match symbol {
+            Symbol::Letter(x) => self.make_letter(roots, x),
+            Symbol::Sign(f) => self.make_sign_down(roots, f, parts[f as usize] as usize),
         }
-        self.make_sign_down(roots, number, parts[number as usize] as usize)
     }
 
     // Reads a row over a signature, from its end to its start: one more root holds its term.
     pub fn read_row(&mut self, roots: &mut Roots, parts: &[u32], words: &[u32]) -> Result<(), Full>
-        requires sound { (Sound self.old) × ((Inside self.old roots.old) × (FewParts parts.now)) }
+        requires inside { (Inside self.old roots.old) × (FewParts parts.now) }
         requires row_of { (t : Term) × RowOf parts.now words.now t }
         ensures { (t : Term) → RowOf parts.now words.now t →
             Read self.old roots.old t self.new roots.new result }
     {
         let base = roots.top;
         for k in (0..words.len() / 2).rev() {
-            if let Err(full) = self.read_symbol(roots, parts, words[2 * k], words[2 * k + 1]) {
+            let symbol = symbol_at(words, 2 * k).unwrap();
+            if let Err(full) = self.read_symbol(roots, parts, symbol) {
                 roots.truncate(base);
                 return Err(full);
             }
@@ -49,21 +45,19 @@ impl Store<'_> {
 
     // Puts the parts of the sign at a place on the roots, so that the first is uppermost.
     pub fn push_parts(&self, roots: &mut Roots, p: Place, n: usize) -> Result<(), Full>
-        requires sound { (Sound self.now) × ((p.0 < self.now.count) × (n ≡ arity_in self.now p.0)) }
+        requires parts { (p.0 < self.now.count) × (n ≡ arity_in self.now p.0) }
         requires has_roots { HasRoots roots.old.cells.now roots.old.top }
         ensures { PartsOrFull self.now roots.old p.0 n roots.new result }
     {
         for k in (0..n).rev() {
-            if let Err(full) = roots.push(self.part(p, k)) {
-                return Err(full);
-            }
+            roots.push(self.part(p, k))?;
         }
         Ok(())
     }
 
     // Writes the symbol of the uppermost root, and puts its parts in its place.
     fn write_symbol(&self, roots: &mut Roots, out: &mut [u32], at: usize) -> Result<(), Short>
-        requires { (Sound self.now) × ((Inside self.now roots.old) × ((0 < roots.old.top) × (at ≤ length out.old))) }
+        requires { (Inside self.now roots.old) × ((0 < roots.old.top) × (at ≤ length out.old)) }
         ensures below { RootsBelow (roots.old.top - 1) roots.old roots.new }
         ensures symbol { SymbolOrShort self.now roots.old out.old at
             roots.new out.new result }
@@ -83,26 +77,22 @@ impl Store<'_> {
             Node::Sign(f, n) => {
                 out[at] = 1;
                 out[at + 1] = f;
-                match self.push_parts(roots, p, n) {
-                    Ok(()) => Ok(()),
-                    Err(_) => Err(Short::NoCell),
-                }
+                self.push_parts(roots, p, n)?;
+                Ok(())
             }
         }
     }
 
     // Writes the row of the term at a place, and says how many words that is. The cells above the roots are used on the way.
     pub fn write_row(&self, roots: &mut Roots, p: Place, out: &mut [u32]) -> Result<usize, Short>
-        requires { (Sound self.now) × ((Inside self.now roots.old) × (p.0 < self.now.count)) }
+        requires { (Inside self.now roots.old) × (p.0 < self.now.count) }
         ensures top { roots.new.top ≡ roots.old.top }
         ensures below { RootsBelow roots.old.top roots.old roots.new }
         ensures written { WrittenOrShort roots.old (term_in self.now p.0) out.old
             out.new result }
     {
         let base = roots.top;
-        if let Err(_) = roots.push(p) {
-            return Err(Short::NoCell);
-        }
+        roots.push(p)?;
         let mut at = 0;
         while roots.top > base {
             if let Err(short) = self.write_symbol(roots, out, at) {

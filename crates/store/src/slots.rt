@@ -1,9 +1,11 @@
 // Slots in lent words: reading and writing their cells. A slot of 16 words is one cache line.
 ghost use Rattle.std.specs.Prelude.{◌≡◌, ◌+◌, ◌-◌, ◌*◌, ◌<◌, ◌≤◌, false, length};
 ghost use Rattle.store.specs.Cells.{cell, HasSlot, CellPut, Cleared};
-ghost use Rattle.store.specs.Slots.{kind_of, arity_of, arity_at, part_at, tag_of, symbol_of, flag_of, PartsWritten, SlotWritten};
+ghost use Rattle.store.specs.Slots.{kind_of, arity_of, arity_at, part_at, tag_of, symbol_of, flag_of, PartsWritten};
+ghost use Rattle.store.specs.Keys.{SlotWritten};
 
-use crate::types::Key;
+use crate::keys::Key;
+use crate::numbers::{WORD, number_at, put_number};
 
 // The words of a slot, and its cells.
 pub const SLOT: usize = 16;
@@ -18,9 +20,7 @@ pub const LAST: usize = 6;
 
 pub const NOTE: usize = 7;
 
-// A word has 32 bits. In a head the number of parts stands above the symbol, and the flag above that.
-pub const WORD: usize = 4294967296;
-
+// In a head the number of parts stands above the symbol, which is a word, and the flag above that.
 pub const FLAG: usize = 8 * WORD;
 
 // Cell k of slot i.
@@ -28,17 +28,14 @@ pub fn get(ws: &[u32], i: usize, k: usize) -> usize
     requires { (HasSlot ws.now i) × (k < 8) }
     ensures { result ≡ cell ws.now i k }
 {
-    let low = SLOT * i + 2 * k;
-    ws[low] as usize + WORD * (ws[low + 1] as usize)
+    number_at(ws, SLOT * i + 2 * k)
 }
 
 pub fn put(ws: &mut [u32], i: usize, k: usize, v: usize)
     requires { (HasSlot ws.old i) × (k < 8) }
     ensures { CellPut ws.old i k v ws.new }
 {
-    let low = SLOT * i + 2 * k;
-    ws[low] = (v % WORD) as u32;
-    ws[low + 1] = (v / WORD) as u32;
+    put_number(ws, SLOT * i + 2 * k, v);
 }
 
 // Part k of slot i.
@@ -110,8 +107,8 @@ fn put_parts(ws: &mut [u32], n: usize, ps: &[usize; 4])
     requires { HasSlot ws.old n }
     ensures { PartsWritten ws.old n ps.now 4 ws.new }
 {
-    for k in 0..4 {
-        put(ws, n, k + PARTS, ps[k]);
+    for (k, &p) in ps.iter().enumerate() {
+        put(ws, n, k + PARTS, p);
     }
 }
 

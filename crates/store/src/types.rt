@@ -1,4 +1,8 @@
 // The types: a store of shared terms, and the stack of roots that says which are kept.
+ghost use Rattle.std.specs.Prelude.{◌≡◌, ◌*◌, ◌<◌, ◌≤◌, false, length};
+ghost use Rattle.store.specs.Slots.{tag_of, kind_of, flag_of, Shared};
+ghost use Rattle.store.specs.Chains.{Chains};
+ghost use Rattle.store.specs.declared.types.Short.TheVariants.{NoCell};
 
 // A store in lent words, with `room` slots. The first `count` are in use, each for another term; at `limit` of them it is collected.
 // Buckets are numbered up to `mask`, a number of the form 2^k - 1.
@@ -9,6 +13,12 @@ pub struct Store<'a> {
     pub limit: usize,
     pub mask: usize,
     pub count: usize,
+    pub ghost shared: { Shared words.now count },
+    pub ghost chains: { Chains mask words.now count },
+    pub ghost fits: { 16 * room ≤ length words.now },
+    pub ghost within: { count ≤ limit },
+    pub ghost limited: { limit ≤ room },
+    pub ghost some: { 0 < limit },
 }
 
 // A stack of places in lent words: their terms are kept. After a collection any other place is another term's, or none's.
@@ -50,9 +60,21 @@ pub enum Short {
     NoCell,
 }
 
-// What a slot is found by: its head and the numbers of its parts' slots.
-#[derive(Clone, Copy, Debug, PartialEq, Eq)]
-pub struct Key {
+// Only cells for roots can be wanting where no term is made.
+impl From<Full> for Short {
+    ghost from_gives = { λ _ s. s ≡ NoCell };
+
+    fn from(_full: Full) -> Short {
+        Short::NoCell
+    }
+}
+
+// A term to be made: its head, and which roots are its parts, from one on.
+#[derive(Clone, Copy)]
+pub struct Plan {
     pub head: usize,
-    pub parts: [usize; 4],
+    pub from: usize,
+    pub order: Order,
+    pub ghost few: { tag_of (kind_of head) ≤ 5 },
+    pub ghost unflagged: { flag_of head ≡ false },
 }

@@ -1,14 +1,15 @@
 // What stands at a place: the node, its parts, the flag that says normal, and the note.
 ghost use Rattle.std.specs.Prelude.{◌≡◌, ◌+◌, ◌-◌, ◌<◌, true, false, ◌≢◌};
 ghost use Rattle.store.specs.Cells.{cell};
-ghost use Rattle.store.specs.Stores.{Sound, term_in, arity_in, part_in, flag_in, note_in, note_of, Shows, FlagSet, NoteSet};
+ghost use Rattle.store.specs.Stores.{term_in, arity_in, part_in, flag_in, note_in, note_of, Shows, FlagSet, NoteSet};
 
-use crate::slots::{FLAG, HEAD, NOTE, WORD, arity, get, kind, part, put, symbol};
+use crate::numbers::WORD;
+use crate::slots::{FLAG, HEAD, NOTE, arity, get, kind, part, put, symbol};
 use crate::types::{Node, Place, Store};
 
 impl Store<'_> {
     fn cell(&self, p: Place, k: usize) -> usize
-        requires { (Sound self.now) × ((p.0 < self.now.count) × (k < 8)) }
+        requires { (p.0 < self.now.count) × (k < 8) }
         ensures { result ≡ cell self.now.words.now p.0 k }
     {
         get(self.words, p.0, k)
@@ -16,7 +17,7 @@ impl Store<'_> {
 
     // The letter or sign at a place.
     pub fn view(&self, p: Place) -> Node
-        requires { (Sound self.now) × (p.0 < self.now.count) }
+        requires { p.0 < self.now.count }
         ensures { Shows self.now p.0 result }
     {
         let kind = kind(self.cell(p, HEAD));
@@ -29,7 +30,7 @@ impl Store<'_> {
 
     // Part k of the sign at a place.
     pub fn part(&self, p: Place, k: usize) -> Place
-        requires { (Sound self.now) × ((p.0 < self.now.count) × (k < arity_in self.now p.0)) }
+        requires { (p.0 < self.now.count) × (k < arity_in self.now p.0) }
         ensures is { result.0 ≡ part_in self.now p.0 k }
         ensures below { result.0 < p.0 }
     {
@@ -38,7 +39,7 @@ impl Store<'_> {
 
     // Whether two places have one term: they have only if they are one place.
     pub fn same(&self, p: Place, q: Place) -> bool
-        requires { (Sound self.now) × ((p.0 < self.now.count) × (q.0 < self.now.count)) }
+        requires { (p.0 < self.now.count) × (q.0 < self.now.count) }
         ensures yes { result ≡ true → term_in self.now p.0 ≡ term_in self.now q.0 }
         ensures no { result ≡ false → term_in self.now p.0 ≢ term_in self.now q.0 }
     {
@@ -47,14 +48,14 @@ impl Store<'_> {
 
     // Whether the term at a place is known to be normal.
     pub fn is_normal(&self, p: Place) -> bool
-        requires { (Sound self.now) × (p.0 < self.now.count) }
+        requires { p.0 < self.now.count }
         ensures { result ≡ flag_in self.now p.0 }
     {
         FLAG <= self.cell(p, HEAD)
     }
 
     pub fn set_normal(&mut self, p: Place)
-        requires { (Sound self.old) × (p.0 < self.old.count) }
+        requires { p.0 < self.old.count }
         ensures { FlagSet self.old p.0 self.new }
     {
         let head = kind(self.cell(p, HEAD)) + FLAG;
@@ -63,7 +64,7 @@ impl Store<'_> {
 
     // A place that was noted for this one. A collection forgets it.
     pub fn note(&self, p: Place) -> Option<Place>
-        requires { (Sound self.now) × (p.0 < self.now.count) }
+        requires { p.0 < self.now.count }
         ensures { note_of result ≡ note_in self.now p.0 }
     {
         match self.cell(p, NOTE) {
@@ -73,7 +74,7 @@ impl Store<'_> {
     }
 
     pub fn set_note(&mut self, p: Place, q: Place)
-        requires { (Sound self.old) × ((p.0 < self.old.count) × (q.0 < self.old.count)) }
+        requires { (p.0 < self.old.count) × (q.0 < self.old.count) }
         ensures { NoteSet self.old p.0 (q.0 + 1) self.new }
     {
         put(self.words, p.0, NOTE, q.0 + 1);

@@ -13,7 +13,7 @@ loop-i-preserved-then-f-lt32 c =
     let m : ℕ = c.loop-i.i - 1 in
     let e : c.loop-i.i ≡ m + 1 = omega arith in
     let x = subst (λ (k : ℕ). IndexedFrom t c.args.rules k c.loop-i.first c.loop-i.next) e c.loop-i.invariant.0 in (
-      index_more t c.args.rules m c.loop-i.first c.loop-i.next x (t m) refl c.if-f-lt32.true c.loop-i.invariant.1
+      index_more t c.args.rules m c.loop-i.first c.loop-i.next x c.if-f-lt32.true (omega arith) c.loop-i.invariant.1
           (omega (arith, c.loop-i.invariant.2)),
       length-set _ _ _ ∙ c.loop-i.invariant.1,
       length-set _ _ _ ∙ c.loop-i.invariant.2,

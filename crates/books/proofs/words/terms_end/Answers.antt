@@ -12,27 +12,27 @@ returns-then-pending-words c =
     (sym c.loop-pending.invariant.2
     ∙ left_few c.args.letters c.args.parts.now c.loop-pending.pending (drop c.loop-pending.i c.args.words.now) few)
 
-pub returns-in_default : goal.returns-in_default
-returns-in_default c =
+pub returns-in_err-symbol : goal.returns-in_err-symbol
+returns-in_err-symbol c =
     let room : c.loop-pending.i + 2 ≤ length c.args.words.now = omega arith in
-    none_there c.args.letters c.args.parts.now c.args.words.now c.args.count c.args.at
+    rw c.from_residual.ensures (none_there c.args.letters c.args.parts.now c.args.words.now c.args.count c.args.at
     (sym c.loop-pending.invariant.2
     ∙ no_symbol c.args.letters c.args.parts.now c.args.words.now c.loop-pending.pending c.loop-pending.i
-    c.loop-pending-test.true room (c.in_default.ensures room))
+    c.loop-pending-test.true room (c.in_err-symbol.ensures room)))
 
-pub returns-in_default-asks : goal.returns-in_default-asks
-returns-in_default-asks c =
-    none_there c.args.letters c.args.parts.now c.args.words.now c.args.count c.args.at
+pub returns-in_err-pending : goal.returns-in_err-pending
+returns-in_err-pending c =
+    rw c.from_residual-in_err-pending.ensures (none_there c.args.letters c.args.parts.now c.args.words.now c.args.count c.args.at
     (sym c.loop-pending.invariant.2
     ∙ stuck c.args.letters c.args.parts.now c.args.words.now c.loop-pending.pending c.loop-pending.i
-    c.in-Some.symbol c.loop-pending-test.true c.in-Some.ensures c.in_default-asks.ensures.is)
+    c.in_ok-symbol.symbol c.loop-pending-test.true c.in_ok-symbol.ensures c.in_err-pending.ensures.is))
 
 pub loop-pending-preserved : goal.loop-pending-preserved
 loop-pending-preserved c = (
-  c.in-Some.ensures.0,
+  c.in_ok-symbol.ensures.0,
   omega (arith, c.loop-pending.invariant.1),
   sym (turn c.args.letters c.args.parts.now c.args.words.now c.loop-pending.pending c.loop-pending.i
-      c.in-Some-asks.n c.in-Some.symbol c.loop-pending-test.true c.in-Some.ensures c.in-Some-asks.ensures.is)
+      c.in_ok-pending.field-0 c.in_ok-symbol.symbol c.loop-pending-test.true c.in_ok-symbol.ensures c.in_ok-pending.ensures.is)
       ∙ c.loop-pending.invariant.2,
 )
 

@@ -1,45 +1,46 @@
 -- From the whole pattern to no symbol.
-use Rattle.std.proofs.Common.{◌+◌, ◌≤◌, sym, arith}
+use Rattle.std.proofs.Common.{◌≡◌, ◌+◌, ◌*◌, ℕ, length, get_or, ap, sym, subst, arith}
+use Rattle.books.proofs.Glueing.{row_length}
 use Rattle.store.specs.Stores.{term_in}
+use Rattle.engine.specs.Matching.{Matching}
 use Rattle.engine.proofs.Matcher.{of_place, match_start, match_room, match_end}
 use Rattle.engine.proofs.matching.match_pattern.Goals as goal
 
-pub loop-at-init : goal.loop-at-init
-loop-at-init c = (
-  omega arith,
-  of_place c.args.words.now c.args.from c.args.to c.args.bindings.now c.args.store.now c.args.p _
-      c.args.from c.new-pending.result c.args.bindings.now (sym c.new-pending.ensures.place)
-      (λ ps u h. match_start ps c.args.words.now c.args.from c.args.to u c.args.store.now c.args.p
-      c.new-pending.result c.args.bindings.now h c.requires.sound.1.0 c.new-pending.ensures c.requires.at_len.0 c.requires.at_len.1),
-)
+pub loop-k-init : goal.loop-k-init
+loop-k-init c =
+    of_place c.args.pattern.now c.args.bindings c.args.store.now c.args.p _ 0 c.new-pending.result c.args.bindings
+    (sym c.new-pending.ensures.place)
+    (λ ps u h. match_start ps c.args.pattern.now u c.args.store.now c.args.p c.new-pending.result c.args.bindings h
+    c.requires.pattern.0 c.new-pending.ensures c.requires.bindings.0 c.requires.bindings.1)
 
 pub match_symbol-requires : goal.match_symbol-requires
 match_symbol-requires c =
-    let (ps, u, h) = c.requires.sound.1.1 in
-    let short : c.args.to ≤ c.args.from + 64 = omega (arith, h.at.long, h.short) in
-    let m = of_place c.args.words.now c.args.from c.args.to c.args.bindings.now c.args.store.now _ c.args.p
-    c.loop-at.at c.loop-at.pending c.loop-at.bindings c.new-pending.ensures.place c.loop-at.invariant.1 in
-    let room = match_room ps c.args.words.now c.args.to c.args.bindings.now u
-    (term_in c.args.store.now c.args.p.0) c.args.store.now c.loop-at.at
-    c.loop-at.pending c.loop-at.bindings c.args.from c.loop-at.invariant.0 short c.loop-at-test.true (m ps u h) in
-    record { sound = (c.requires.sound.0, (room.0, room.1)); places_inside = room.2 }
+    let (ps, u, h) = c.requires.pattern.1 in
+    let m = of_place c.args.pattern.now c.args.bindings c.args.store.now _ c.args.p
+    (2 * c.loop-k.k) c.loop-k.pending c.loop-k.bindings c.new-pending.ensures.place c.loop-k.invariant in
+    let room = match_room ps c.args.pattern.now c.args.bindings u (term_in c.args.store.now c.args.p.0) c.args.store.now
+    (2 * c.loop-k.k) c.loop-k.pending c.loop-k.bindings (omega (arith, ap length h.written, row_length u, h.short))
+    (omega (arith, c.loop-k-test.true)) (m ps u h) in
+    record { some = (room.0, room.1); places_inside = room.2 }
 
 pub returns-then-not-match_symbol : goal.returns-then-not-match_symbol
 returns-then-not-match_symbol c ps u h =
-    let m = of_place c.args.words.now c.args.from c.args.to c.args.bindings.now c.args.store.now _ c.args.p
-    c.loop-at.at c.loop-at.pending c.loop-at.bindings c.new-pending.ensures.place c.loop-at.invariant.1 in
-    c.if-not-match_symbol.ensures ps c.args.to c.args.bindings.now u (term_in c.args.store.now c.args.p.0)
-    (m ps u h)
+    let m = of_place c.args.pattern.now c.args.bindings c.args.store.now _ c.args.p
+    (2 * c.loop-k.k) c.loop-k.pending c.loop-k.bindings c.new-pending.ensures.place c.loop-k.invariant in
+    c.if-not-match_symbol.ensures ps c.args.bindings u (term_in c.args.store.now c.args.p.0) (m ps u h)
 
-pub loop-at-preserved : goal.loop-at-preserved
-loop-at-preserved c = (
-  omega (arith, c.loop-at.invariant.0),
-  λ ps u h. c.if-not-match_symbol.ensures ps c.args.to c.args.bindings.now u _ (c.loop-at.invariant.1 ps u h),
-)
+pub loop-k-preserved : goal.loop-k-preserved
+loop-k-preserved c ps u h =
+    let t = term_in c.args.store.now (get_or c.new-pending.result.places 0 (record { 0 = 0 })).0 in
+    let next : 2 * c.loop-k.k + 2 ≡ 2 * (c.loop-k.k + 1) = omega arith in
+    subst (λ (a : ℕ). Matching ps c.args.pattern.now c.args.bindings u t c.args.store.now a c.match_symbol.new.pending
+    c.match_symbol.new.bindings) next
+    (c.if-not-match_symbol.ensures ps c.args.bindings u t (c.loop-k.invariant ps u h))
 
 pub returns : goal.returns
 returns c ps u h =
-    let m = of_place c.args.words.now c.args.from c.args.to c.args.bindings.now c.args.store.now _ c.args.p
-    c.loop-at.at c.loop-at.pending c.loop-at.bindings c.new-pending.ensures.place c.loop-at.invariant.1 in
-    match_end ps c.args.words.now c.args.to c.args.bindings.now u (term_in c.args.store.now c.args.p.0)
-    c.args.store.now c.loop-at.at c.loop-at.pending c.loop-at.bindings (m ps u h) c.loop-at-test.false
+    let m = of_place c.args.pattern.now c.args.bindings c.args.store.now _ c.args.p
+    (2 * c.loop-k.k) c.loop-k.pending c.loop-k.bindings c.new-pending.ensures.place c.loop-k.invariant in
+    match_end ps c.args.pattern.now c.args.bindings u (term_in c.args.store.now c.args.p.0) c.args.store.now
+    (2 * c.loop-k.k) c.loop-k.pending c.loop-k.bindings (m ps u h)
+    (omega (arith, c.loop-k-test.false, ap length h.written, row_length u))

@@ -1,15 +1,41 @@
--- The left side's top sign is the word after the first.
-use Rattle.std.proofs.Common.{arith}
-use Rattle.engine.proofs.Trying.{sign_told, other_sign}
+-- The left side's top sign is its second word.
+use Rattle.std.proofs.Common.{◌≡◌, Some, length, ap, subst, arith}
+use Rattle.store.specs.Stores.{term_in}
+use Rattle.books.specs.Books.{rule_in}
+use Rattle.engine.specs.declared.types.Bindings.{Bindings}
+use Rattle.engine.specs.Matching.{bound, MatchedOn}
+use Rattle.engine.proofs.Matcher.{fresh_is, unbound}
+use Rattle.engine.proofs.Trying.{sign_told, other_sign, left_pattern}
 use Rattle.engine.proofs.rules.match_rule.Goals as goal
 
-pub bounds-book-sides : goal.bounds-book-sides
-bounds-book-sides c =
-    let h = sign_told c.args.book.now c.args.store.now c.args.p c.requires.0 c.args.i c.requires.1.0 _ _ _
-    c.rule-sides.ensures in
-    omega (arith, h.within)
+pub bounds-left-1 : goal.bounds-left-1
+bounds-left-1 c =
+    omega (arith, (sign_told c.args.book.now c.args.store.now c.args.p c.requires.0 c.args.i c.requires.1.0 _ c.left-left.ensures).within)
 
-pub returns-then-book-sides : goal.returns-then-book-sides
-returns-then-book-sides c =
-    other_sign c.args.book.now c.args.store.now c.args.p c.requires.0 c.args.i c.requires.1.0 _ _ _ c.args.f
-    c.rule-sides.ensures c.if-book-sides.true c.requires.1.1
+pub returns-then-left-f : goal.returns-then-left-f
+returns-then-left-f c s g e =
+    other_sign c.args.book.now c.args.store.now c.args.p c.requires.0 c.args.i c.requires.1.0 _ c.args.f
+    c.left-left.ensures c.if-left-f.true c.requires.1.1 s e
+
+pub match_pattern-requires-clause-pattern : goal.match_pattern-requires-clause-pattern
+match_pattern-requires-clause-pattern c = (
+  c.requires.0.inside,
+  (
+    _,
+    _,
+    left_pattern c.args.book.now c.args.i c.requires.1.0 _ c.args.store.now c.args.p c.left-left.ensures c.requires.0.fits,
+  ),
+)
+
+pub match_pattern-requires-clause-bindings : goal.match_pattern-requires-clause-bindings
+match_pattern-requires-clause-bindings c = (
+  ap length c.new.ensures,
+  λ x q k. absurd (unbound x q (subst (λ (b : Bindings). bound b x ≡ Some q) (fresh_is c.new.result c.new.ensures) k)),
+)
+
+pub returns : goal.returns
+returns c =
+    subst (λ (b : Bindings). MatchedOn c.args.store.now b (rule_in c.args.book.now c.args.i).left (term_in c.args.store.now c.args.p.0)
+    c.match_pattern.result) (fresh_is c.new.result c.new.ensures)
+    (c.match_pattern.ensures _ _
+    (left_pattern c.args.book.now c.args.i c.requires.1.0 _ c.args.store.now c.args.p c.left-left.ensures c.requires.0.fits))

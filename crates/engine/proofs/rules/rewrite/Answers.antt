@@ -1,28 +1,34 @@
 -- The rule that was found is used.
-use Rattle.engine.proofs.Trying.{right_bound, by_this_rule}
+use Rattle.std.proofs.Common.{sym, ◌∙◌, arith}
+use Rattle.books.proofs.Building.{book_parts}
+use Rattle.books.proofs.Heads.{head_of}
+use Rattle.books.specs.Books.{told}
+use Rattle.engine.proofs.Trying.{right_bound, right_fillable, by_this_rule}
 use Rattle.engine.proofs.rules.rewrite.Goals as goal
 
-pub instance-requires : goal.instance-requires
-instance-requires c =
-    let can = c.requires.0 in
-    let found = c.in-Some.ensures in
-    let all = right_bound c.args.book.now c.args.store.now c.args.p can c.in-Some.i found.0
-    c.find_rule.new.bindings found.1 in
-    record {
-      sound_book = (can.book, found.0);
-      term_at = c.rule-sides.ensures.right;
-      sound = (can.sound, c.requires.1);
-      all_bound = (all, found.1.inside);
-    }
+pub row_instance-requires-clause-few_parts : goal.row_instance-requires-clause-few_parts
+row_instance-requires-clause-few_parts c =
+    let k = c.args.book.now in
+    let found = c.in_ok-i.ensures in (
+      book_parts k.words.now (told k) k.reads _ (c.parts.ensures ∙ sym (head_of k.words.now (told k) k.reads).parts),
+      (
+        _,
+        right_fillable k c.in_ok-i.i found.0 _ _ c.in_ok-i.bindings c.parts.ensures c.right.ensures
+            (right_bound k c.args.store.now c.args.p c.requires.0 c.in_ok-i.i found.0 c.in_ok-i.bindings found.1),
+      ),
+    )
 
 pub returns : goal.returns
 returns c =
-    let found = c.in-Some.ensures in
-    let made = c.instance.ensures in
+    let k = c.args.book.now in
+    let found = c.in_ok-i.ensures in
+    let f = right_fillable k c.in_ok-i.i found.0 _ _ c.in_ok-i.bindings c.parts.ensures c.right.ensures
+    (right_bound k c.args.store.now c.args.p c.requires.0 c.in_ok-i.i found.0 c.in_ok-i.bindings found.1) in
+    let made = c.row_instance.ensures _ f in
     record {
       sound = made.sound;
       grown = made.grown;
-      few = made.few;
-      result = by_this_rule c.args.book.now c.args.store.now c.args.p c.requires.0 c.in-Some.i found.0
-          c.find_rule.new.bindings c.instance.new.store c.instance.result found.1 made;
+      few = omega (arith, made.few, f.small);
+      result = by_this_rule k c.args.store.now c.args.p c.requires.0 c.in_ok-i.i found.0
+          c.in_ok-i.bindings c.row_instance.new.store c.row_instance.result found.1 made;
     }

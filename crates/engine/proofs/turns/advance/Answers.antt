@@ -6,11 +6,10 @@ use Rattle.engine.proofs.turns.advance.Goals as goal
 
 pub returns-then-is_normal : goal.returns-then-is_normal
 returns-then-is_normal c =
-    by_flag (told c.args.book.now).rules c.args.store.now c.args.p c.requires.rewritable.0.sound c.requires.honest
+    by_flag (told c.args.book.now).rules c.args.store.now c.args.p c.requires.honest
     c.requires.rewritable.0.inside
     (sym c.if-is_normal.ensures)
 
-pub returns-in-Some-rewrite : goal.returns-in-Some-rewrite
-returns-in-Some-rewrite c =
-    by_step (told c.args.book.now).rules c.args.store.now c.args.p c.rewrite.new.store c.in-Some-rewrite.q
-    c.requires.honest c.in-Some-rewrite.ensures
+pub returns : goal.returns
+returns c =
+    by_step (told c.args.book.now).rules c.args.store.now c.args.p c.rewrite.new.store c.in_ok-q.q c.requires.honest c.in_ok-q.ensures

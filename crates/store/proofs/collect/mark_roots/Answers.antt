@@ -1,5 +1,5 @@
 -- One more root is marked.
-use Rattle.store.specs.Roots.{root_at}
+use Rattle.store.specs.Stacks.{root_in}
 use Rattle.store.proofs.Marking.{too_start, too_more}
 use Rattle.store.proofs.collect.mark_roots.Goals as goal
 
@@ -7,6 +7,5 @@ pub loop-k-init : goal.loop-k-init
 loop-k-init c = too_start _ _
 
 pub loop-k-preserved : goal.loop-k-preserved
-loop-k-preserved c = too_more (λ k. root_at c.args.cells.now k) c.loop-k.k c.root.result c.args.ws.now c.loop-k.ws
-    c.put.new.ws
-    c.loop-k.invariant c.root.ensures c.put.ensures
+loop-k-preserved c = too_more (λ k. root_in c.args.roots.now k) c.loop-k.k c.place.result.0 c.args.ws.now c.loop-k.ws
+    c.put.new.ws c.loop-k.invariant c.place.ensures c.put.ensures

@@ -1,8 +1,8 @@
 -- The root as it is written out.
-use Rattle.std.proofs.Common.{refl}
+
 use Rattle.store.specs.Roots.{root_at}
 use Rattle.store.proofs.roots.root.Goals as goal
 
 pub returns : goal.returns
 unfolding root_at
-returns c = refl
+returns c = c.number_at.ensures

@@ -1,8 +1,8 @@
 -- The cell as it is written out.
-use Rattle.std.proofs.Common.{refl}
+
 use Rattle.store.specs.Cells.{cell}
 use Rattle.store.proofs.slots.get.Goals as goal
 
 pub returns : goal.returns
 unfolding cell
-returns c = refl
+returns c = c.number_at.ensures

@@ -1,14 +1,15 @@
 -- Without a cell for the root nothing is done; with one, it is the place.
 use Rattle.std.proofs.Common.{refl, arith}
+use Rattle.store.proofs.Sounds.{sound_in}
 use Rattle.store.proofs.Placing.{roots_same, grown_same, carried_grown}
 use Rattle.store.proofs.types.Store.make.Goals as goal
 
-pub returns-then-roots-from : goal.returns-then-roots-from
-returns-then-roots-from c =
+pub returns-then-roots-plan : goal.returns-then-roots-plan
+returns-then-roots-plan c =
     let a = c.args.self.now in
     record {
-      sound = c.requires.sound.0;
+      sound = sound_in a;
       room = refl;
       carried = carried_grown a a (grown_same a);
-      roots = (roots_same a c.args.roots.now c.requires.sound.1.0, λ h. omega arith);
+      roots = (roots_same a c.args.roots.now c.requires.inside, λ h. omega arith);
     }

@@ -11,4 +11,4 @@ returns c =
     let h = c.sign_head in let a = c.args.self.now in let q = c.args.roots.now in
     made_is a q _ _ _ c.make.new.self c.make.new.roots c.make.result
     (node_sign _ (kind_of h.result) _ c.args.f c.args.n h.ensures.tag h.ensures.symbol
-    ∙ ap (sign c.args.f) (parts_down a q _ _ c.args.n (omega arith))) c.make.ensures
+    ∙ ap (sign c.args.f) (parts_down a q _ _ c.args.n (omega arith))) (simp (c.new.ensures.head, c.new.ensures.from, c.new.ensures.order) at c.make.ensures)

@@ -1,6 +1,7 @@
 -- The key is the letter's, and there is space for it.
 use Rattle.store.specs.Slots.{kind_of}
 use Rattle.store.proofs.Viewing.{node_letter}
+use Rattle.store.proofs.Sounds.{sound_in}
 use Rattle.store.proofs.Sharing.{found_at, new_is}
 use Rattle.store.proofs.types.Store.share_letter.Goals as goal
 
@@ -12,7 +13,7 @@ returns c =
     let found = found_at a c.intern.new.self _ _ c.intern.result c.unwrap.result c.unwrap.ensures m.place
     (node_letter _ (kind_of h.result) _ c.args.x h.ensures.tag h.ensures.symbol) in
     record {
-      sound = m.sound;
+      sound = sound_in c.intern.new.self;
       grown = m.grown;
       few = m.few;
       inside = found.0;

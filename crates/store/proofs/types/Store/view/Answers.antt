@@ -11,7 +11,7 @@ returns-then-kind-lt-WORD c =
     let a = c.args.self.now in let ws = a.words.now in let i = c.args.p.0 in
     let e : c.kind-kind.result ≡ kind_at ws i = c.kind-kind.ensures ∙ ap kind_of c.cell.ensures in (
       omega arith,
-      term_is ws a.count i c.requires.0.shared.shape (omega arith)
+      term_is ws a.count i a.shared.shape (omega arith)
           ∙ node_letter _ (kind_at ws i) _ _ (omega arith) (ap symbol_of (sym e) ∙ sym c.symbol-symbol.ensures),
     )
 
@@ -20,10 +20,10 @@ unfolding tag_of
 returns c =
     let a = c.args.self.now in let ws = a.words.now in let i = c.args.p.0 in
     let e : c.kind-kind.result ≡ kind_at ws i = c.kind-kind.ensures ∙ ap kind_of c.cell.ensures in
-    let t : tag_of (kind_at ws i) ≤ 5 = c.requires.0.shared.shape.tags i (omega arith) in
+    let t : tag_of (kind_at ws i) ≤ 5 = a.shared.shape.tags i (omega arith) in
     let tag : tag_of (kind_at ws i) ≡ c.arity.result + 1 = omega arith in (
       omega arith,
       omega arith,
-      term_is ws a.count i c.requires.0.shared.shape (omega arith)
+      term_is ws a.count i a.shared.shape (omega arith)
           ∙ node_sign _ (kind_at ws i) _ _ c.arity.result tag (ap symbol_of (sym e) ∙ sym c.symbol-symbol.ensures),
     )

@@ -1,9 +1,0 @@
--- So far no slot from `next` on is the key's. The links go down.
-use Rattle.store.specs.Chains.{Searched}
-use Rattle.store.proofs.chains.find.Given as goal
-
-abbrev pub invariant-loop-next : goal.invariant-loop-next
-invariant-loop-next l = Searched l.mask l.ws l.count l.key l.next
-
-abbrev pub decreases-loop-next : goal.decreases-loop-next
-decreases-loop-next l = l.next
