@@ -3,7 +3,7 @@ use Rattle.std.proofs.Common.{◌≡◌, None, Some, length, ap, subst}
 use Rattle.store.specs.Stores.{term_in}
 use Rattle.books.specs.Books.{equation_in}
 use Rattle.engine.specs.declared.types.Bindings.{Bindings}
-use Rattle.engine.specs.Matching.{bound, MatchedOn}
+use Rattle.engine.specs.Matching.{bound}
 use Rattle.engine.proofs.Matcher.{fresh_is, unbound}
 use Rattle.ways.proofs.Topping.{left_pattern, right_pattern, first_matched, left_fails, both_matched}
 use Rattle.ways.proofs.walk.Walk.matched.Goals as goal
