@@ -8,7 +8,7 @@ use Rattle.rewriting.specs.Ways.{One, Way}
 use Rattle.rewriting.proofs.Signature.{over_fits}
 use Rattle.books.specs.declared.row.Book.{Book}
 use Rattle.books.specs.declared.words.Letters.TheVariants.{Any}
-use Rattle.books.specs.Books.{told, SoundBook, rule_in, RuleAt}
+use Rattle.books.specs.Books.{told, sound_book_in, rule_in, RuleAt}
 use Rattle.books.specs.Layouts.{FewParts}
 use Rattle.books.specs.Reading.{TermAt, TermEnd}
 use Rattle.books.specs.Rows.{row, rowTerms}
@@ -24,7 +24,8 @@ use Rattle.store.specs.Stacks.{root_in, CutTo}
 use Rattle.store.specs.Making.{Stacked}
 use Rattle.store.specs.Transfers.{RowOf}
 use Rattle.std.specs.Bool.{then_some}
-use Rattle.store.specs.Stores.{Sound, term_in, held, terms_down, Inside}
+use Rattle.store.specs.Stores.{term_in, held, terms_down, Inside}
+use Rattle.store.proofs.Sounds.{sound_in}
 use Rattle.store.proofs.Placing.{carried_then, carried_grown, grown_same}
 use Rattle.ways.specs.Steps.{TwoTerms, StepTold}
 use Rattle.ways.specs.Showing.{RoomFor, WentOn, TermNext, NextTold, TermsNext, Followed, WayTold}
@@ -32,16 +33,17 @@ use Rattle.ways.specs.Walks.{Kept, OnlyRoots, UnderWay}
 use Rattle.ways.specs.declared.walk.Walk.{Walk}
 
 -- the signature by its words
-pub few_parts : (k : Book) → SoundBook k → (ps : List ℕ) → ps ≡ (told k).parts → FewParts ps
-few_parts k s ps e = book_parts k.words.now (told k) s.reads ps (e ∙ sym (head_of k.words.now (told k) s.reads).parts)
+pub few_parts : (k : Book) (ps : List ℕ) → ps ≡ (told k).parts → FewParts ps
+few_parts k ps e =
+    let s = sound_book_in k in book_parts k.words.now (told k) s.reads ps (e ∙ sym (head_of k.words.now (told k) s.reads).parts)
 
 -- going on
-pub went_same : (st : Store) (q : Roots) → Sound st → WentOn st q st q
-went_same st q s = record { sound = s; room = refl; cells = refl; carried = carried_grown st st (grown_same st) }
+pub went_same : (st : Store) (q : Roots) → WentOn st q st q
+went_same st q = record { sound = sound_in st; room = refl; cells = refl; carried = carried_grown st st (grown_same st) }
 
-pub kept_same : (w : Walk) → Sound w.store.now → Kept w w
-kept_same w s =
-    record { book = refl; ways = refl; store_lent = refl; roots_lent = refl; went = went_same w.store.now w.roots.now s }
+pub kept_same : (w : Walk) → Kept w w
+kept_same w =
+    record { book = refl; ways = refl; store_lent = refl; roots_lent = refl; went = went_same w.store.now w.roots.now }
 
 pub kept_then : (w v u : Walk) → Kept w v → Kept v u → Kept w u
 kept_then w v u g h = record {
@@ -57,14 +59,14 @@ kept_then w v u g h = record {
   };
 }
 
-pub kept_only : (w v : Walk) → Sound w.store.now → OnlyRoots w v → length v.roots.now.cells.now ≡ length w.roots.now.cells.now → Kept w v
-kept_only w v s o long = record {
+pub kept_only : (w v : Walk) → OnlyRoots w v → length v.roots.now.cells.now ≡ length w.roots.now.cells.now → Kept w v
+kept_only w v o long = record {
   book = o.book;
   ways = o.ways;
   store_lent = o.store_lent;
   roots_lent = o.roots_lent;
   went = subst (λ (st : Store). WentOn w.store.now w.roots.now st v.roots.now) (sym o.store)
-      (record { sound = s; room = refl; cells = long; carried = carried_grown w.store.now w.store.now (grown_same w.store.now) });
+      (record { sound = sound_in w.store.now; room = refl; cells = long; carried = carried_grown w.store.now w.store.now (grown_same w.store.now) });
 }
 
 -- the only root's size
@@ -115,9 +117,6 @@ no_term k h a t u none_there v rest n o = none_there v rest n.fits (sym n.writte
 
 -- what is told of a walk's book and ways is told of those that it began with
 module _ (w v : Walk) (kept : Kept w v) where
-  pub sound_on : SoundBook w.book.now → SoundBook v.book.now
-  sound_on = subst SoundBook (sym kept.book)
-
   pub next_on : (a : ℕ) (t u : Term) (x : Option ℕ) → NextTold v.book.now v.ways.now a t u x → NextTold w.book.now w.ways.now a t u x
   next_on a t u x = subst₂ (λ (k : Book) (h : List ℕ). NextTold k h a t u x) kept.book kept.ways
 
@@ -146,8 +145,6 @@ module _ (w : Walk) (u : UnderWay w) (a z : ℕ) (t : Term) (fits : Fits (told w
 
   pub two_terms : TwoTerms v.book.now v.store.now v.roots.now
   two_terms = subst (λ (k : Book). TwoTerms k v.store.now v.roots.now) (sym kept.book) (record {
-    book = u.book;
-    sound = kept.went.sound;
     inside = read.inside;
     two = omega (arith, read.top, u.one);
     first = subst (Fits (told w.book.now).parts) (sym first_is) u.fits;
@@ -157,15 +154,13 @@ module _ (w : Walk) (u : UnderWay w) (a z : ℕ) (t : Term) (fits : Fits (told w
 
   module _ (x : Walk) (only : OnlyRoots v x) (y : Bool) (step : StepTold v.book.now v.store.now v.roots.now x.roots.now y) where
     pub kept_next : Kept w x
-    kept_next = kept_then w v x kept (kept_only v x kept.went.sound only step.long)
+    kept_next = kept_then w v x kept (kept_only v x only step.long)
 
     held_next : held x.store.now x.roots.now 0 ≡ t
     held_next = ap (λ (st : Store). held st x.roots.now 0) only.store ∙ (step.term ∙ second_is)
 
     pub under_next : UnderWay x
     under_next = record {
-      book = sound_on w x kept_next u.book;
-      sound = kept_next.went.sound;
       inside = subst (λ (st : Store). Inside st x.roots.now) (sym only.store) step.inside;
       one = step.top;
       fits = subst₂ (λ (k : Book) (s : Term). Fits (told k).parts s) (sym kept_next.book) (sym held_next) fits;
@@ -277,20 +272,20 @@ module _ (w : Walk) (one : w.roots.now.top ≡ 1) (t : Term) (v : Walk)
       }
 
 -- the sides of a rule
-module _ (k : Book) (book : SoundBook k) (i : ℕ) (low : i < length (told k).rules) (ws : List ℕ) where
+module _ (k : Book) (i : ℕ) (low : i < length (told k).rules) (ws : List ℕ) where
   abbrev side : ℕ → ℕ
   side j = get_or k.layout.starts (2 * (k.layout.equations + i) + j) 0
 
   stands : RuleAt k i (get_or k.layout.starts (2 * (k.layout.equations + i)) 0) (side 1) (side 2)
-  stands = rule_at k book i low _ _ _ refl refl refl
+  stands = rule_at k (sound_book_in k) i low _ _ _ refl refl refl
 
   pub left_row : ws ≡ row (rule_in k i).left → RowOf (told k).parts ws (rule_in k i).left
   left_row e =
-      record { written = sym e; fits = over_fits (told k).parts SmallLetter (rule_in k i).left (rule_sides k book i low).left }
+      record { written = sym e; fits = over_fits (told k).parts SmallLetter (rule_in k i).left (rule_sides k (sound_book_in k) i low).left }
 
   pub right_row : ws ≡ row (rule_in k i).right → RowOf (told k).parts ws (rule_in k i).right
   right_row e =
-      record { written = sym e; fits = over_fits (told k).parts SmallLetter (rule_in k i).right (rule_sides k book i low).right }
+      record { written = sym e; fits = over_fits (told k).parts SmallLetter (rule_in k i).right (rule_sides k (sound_book_in k) i low).right }
 
   pub left_short : ws ≡ row (rule_in k i).left → length ws ≤ length k.words.now
   left_short e = omega (arith, ap length e, row_length (rule_in k i).left, stands.left.long, stands.left.within)
@@ -299,23 +294,21 @@ module _ (k : Book) (book : SoundBook k) (i : ℕ) (low : i < length (told k).ru
   right_short e = omega (arith, ap length e, row_length (rule_in k i).right, stands.right.long, stands.right.within)
 
 -- the left side of a rule is read
-module _ (w : Walk) (i : ℕ) (book : SoundBook w.book.now) (low : i < length (told w.book.now).rules) (q : Roots) (none_yet : q.top ≡ 0)
+module _ (w : Walk) (i : ℕ) (low : i < length (told w.book.now).rules) (q : Roots) (none_yet : q.top ≡ 0)
     (v : Walk) (kept : Kept w v) (read : Stacked w.store.now q q.top (rule_in w.book.now i).left v.store.now v.roots.now) where
   pub left_is : held v.store.now v.roots.now 0 ≡ (rule_in w.book.now i).left
   left_is = ap (λ (n : ℕ). held v.store.now v.roots.now n) (sym none_yet) ∙ read.term
 
   pub under_first : UnderWay v
   under_first =
-      let here = left_row w.book.now book i low _ refl in record {
-        book = sound_on w v kept book;
-        sound = kept.went.sound;
+      let here = left_row w.book.now i low _ refl in record {
         inside = read.inside;
         one = omega (arith, read.top);
         fits = subst₂ (λ (k : Book) (s : Term). Fits (told k).parts s) (sym kept.book) (sym left_is) here.fits;
         small = omega (
           arith,
           ap size left_is,
-          left_short w.book.now book i low _ refl,
+          left_short w.book.now i low _ refl,
           row_length (rule_in w.book.now i).left,
           ap (λ (k : Book). length k.words.now) kept.book,
         );

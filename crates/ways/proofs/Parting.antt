@@ -10,7 +10,8 @@ use Rattle.store.specs.declared.types.Place.{Place}
 use Rattle.store.specs.declared.types.Node.{Node}
 use Rattle.store.specs.declared.types.Node.TheVariants.{Letter, Sign}
 use Rattle.store.specs.Slots.{parts_by}
-use Rattle.store.specs.Stores.{Sound, Shows, term_in, arity_in, part_in, parts_in}
+use Rattle.store.specs.Stores.{Shows, term_in, arity_in, part_in, parts_in}
+use Rattle.store.proofs.Sounds.{sound_in}
 use Rattle.store.proofs.Cases.{le_or_lt}
 use Rattle.store.proofs.Decoding.{parts_by_same}
 use Rattle.store.proofs.Emitting.{count_parts}
@@ -69,15 +70,15 @@ other_nodes st p q (Sign f n) (Sign g m) ne sp sq h ts us v w e k d =
     let cq = count_parts (λ j. term_in st j) (λ k. part_in st q.0 k) 0 m in
     ne (ap₂ Sign same (sym cp ∙ (ap count a ∙ (differ_count d ∙ (ap count (sym b) ∙ cq)))))
 
-module _ (st : Store) (p q : Place) (sound : Sound st) (lp : p.0 < st.count) (lq : q.0 < st.count) (f n : ℕ)
+module _ (st : Store) (p q : Place) (lp : p.0 < st.count) (lq : q.0 < st.count) (f n : ℕ)
     (shows-p : Shows st p.0 (Sign f n)) (shows-q : Shows st q.0 (Sign f n)) where
   part_low : (i : ℕ) → i < st.count → (k : ℕ) → k < arity_in st i → part_in st i k < st.count
-  part_low i l k h = let m = sound.shared.shape.below i k l h in omega arith
+  part_low i l k h = let m = (sound_in st).shared.shape.below i k l h in omega arith
 
   -- different places have different terms
   apart : (k : ℕ) → k < n → (part_in st p.0 k ≡ part_in st q.0 k → ⊥) →
       term_in st (part_in st p.0 k) ≡ term_in st (part_in st q.0 k) → ⊥
-  apart k l ne e = ne (one_place st.words.now st.count _ _ sound.shared (part_low p.0 lp k (omega (arith, shows-p.1)))
+  apart k l ne e = ne (one_place st.words.now st.count _ _ (sound_in st).shared (part_low p.0 lp k (omega (arith, shows-p.1)))
       (part_low q.0 lq k (omega (arith, shows-q.1))) e)
 
   parts_are : (h : ℕ) (ts us : Terms) (v w : Term) → term_in st p.0 ≡ sign h ts → term_in st q.0 ≡ sign h us → DifferAt v w ts us →

@@ -1,30 +1,15 @@
 -- The ways of all rules, one after the other.
-use Rattle.std.proofs.Common.{◌≡◌, ℕ, ◌+◌, ◌-◌, ◌<◌, ◌≤◌, List, [], ◌∷◌, ◌++◌, length, get_or, take, drop, Some, None, sym, refl, ap, ◌∙◌}
+use Rattle.std.proofs.Common.{◌≡◌, ℕ, ◌+◌, ◌<◌, ◌≤◌, List, [], ◌∷◌, ◌++◌, length, get_or, drop, Some, None, sym, refl, ap, ◌∙◌}
 use Rattle.std.proofs.Common.{subst, add-one, arith, length-drop, drop-cons}
 use lib.Seq.{drop-length}
 use Rattle.rewriting.specs.Terms.{Term}
 use Rattle.rewriting.specs.Rules.{Eq}
 use Rattle.rewriting.specs.Ways.{Way, Ways}
 use Rattle.books.specs.declared.row.Book.{Book}
-use Rattle.books.specs.Books.{told, SoundBook, blank, rule_in}
-use Rattle.books.specs.Reading.{signs_of}
+use Rattle.books.specs.Books.{told, blank, rule_in}
 use Rattle.books.specs.Rows.{rowTerms, rowWays, AllFit, WaysFit, SomeWays}
-use Rattle.books.proofs.Heads.{head_of}
 use Rattle.books.proofs.Unique.{one_ways}
 use Rattle.ways.specs.Showing.{TermsNext, WayTold, Shown}
-
--- the signature's words
-module _ (k : Book) (sound : SoundBook k) where
-  signs_are : (n : ℕ) → n ≡ k.layout.signs → n ≡ signs_of k.words.now
-  signs_are n e = omega (arith, sound.laid.signs, (head_of k.words.now (told k) sound.reads).signs)
-
-  pub signature_within : (n : ℕ) → n ≡ k.layout.signs → 1 + n ≤ length k.words.now
-  signature_within n e = omega (arith, signs_are n e, (head_of k.words.now (told k) sound.reads).long)
-
-  pub signature_is : (n : ℕ) → n ≡ k.layout.signs → take (1 + n - 1) (drop 1 k.words.now) ≡ (told k).parts
-  signature_is n e =
-      let d : 1 + n - 1 ≡ signs_of k.words.now = omega (arith, signs_are n e) in
-      ap (λ (m : ℕ). take m (drop 1 k.words.now)) d ∙ (head_of k.words.now (told k) sound.reads).parts
 
 -- terms of ways are over the signature, and there are as many ways as rules
 way_fits : (ps : List ℕ) (es : List Eq) (t : Term) (w : List Term) (u : Term) → Way ps es t w u → AllFit ps w

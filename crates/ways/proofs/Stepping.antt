@@ -9,7 +9,7 @@ use Rattle.rewriting.specs.Rules.{itself, in_this, in_later}
 use Rattle.rewriting.specs.Ways.{One}
 use Rattle.rewriting.proofs.Glueing.{count_sizes, sizes_glue}
 use Rattle.books.specs.declared.row.Book.{Book}
-use Rattle.books.specs.Books.{told, SoundBook}
+use Rattle.books.specs.Books.{told}
 use Rattle.books.proofs.Glueing.{over_glue}
 use Rattle.store.specs.declared.types.Store.{Store}
 use Rattle.store.specs.declared.types.Roots.{Roots}
@@ -17,8 +17,9 @@ use Rattle.store.specs.declared.types.Place.{Place}
 use Rattle.store.specs.declared.types.Full.{Full}
 use Rattle.store.specs.Roots.{HasRoots}
 use Rattle.store.specs.Stacks.{root_in, StackedOn, CutTo}
-use Rattle.store.specs.Stores.{Sound, term_in, part_in, parts_in, held, terms_down, Inside}
+use Rattle.store.specs.Stores.{term_in, part_in, parts_in, held, terms_down, Inside}
 use Rattle.store.specs.Transfers.{inner, PartsOrFull, RootsBelow}
+use Rattle.store.proofs.Sounds.{sound_in}
 use Rattle.store.proofs.Emitting.{down_join, size_inner, sign_count, sign_below, sign_written}
 use Rattle.store.proofs.Forests.{down_same, down_count}
 use Rattle.store.proofs.Telling.{one_place}
@@ -42,7 +43,7 @@ differ_fits ps (differ_later d) x y = differ_fits ps d x.1 y.1
 
 module _ (k : Book) (st : Store) (p0 q0 p q : Place) (n : Narrowed k st p0 q0 p q) where
   different_terms : term_in st p.0 ≡ term_in st q.0 → ⊥
-  different_terms e = n.apart (one_place st.words.now st.count _ _ n.can.sound.shared n.can.left n.can.right e)
+  different_terms e = n.apart (one_place st.words.now st.count _ _ (sound_in st).shared n.can.left n.can.right e)
 
   pub found_top : Equated (told k).eqs (term_in st p.0) (term_in st q.0) →
       Tells true (One (told k).eqs (term_in st p0.0) (term_in st q0.0))
@@ -84,8 +85,6 @@ module _ (k : Book) (st : Store) (p0 q0 p q : Place) (n : Narrowed k st p0 q0 p 
       pub narrowed_more : x.0 < p.0 → y.0 < q.0 → Narrowed k st p0 q0 x y
       narrowed_more lx ly = record {
         can = record {
-          book = n.can.book;
-          sound = n.can.sound;
           left = omega (arith, n.can.left);
           right = omega (arith, n.can.right);
           left_fits = fits_both.0;
@@ -161,12 +160,12 @@ module _ (k : Book) (st : Store) (base : ℕ) (q r : Roots) (w : Walking k st ba
   both_fit : AllOver AnyLetter (told k).parts (and1 next_term others)
   both_fit = subst (AllOver AnyLetter (told k).parts) pending w.fits
 
-  pub walk_can : SoundBook k → Sound st → (p : Place) → p.0 ≡ root_in r (r.top - 1) → Comparable k st p p
-  walk_can book sound p e =
+  pub walk_can : (p : Place) → p.0 ≡ root_in r (r.top - 1) → Comparable k st p p
+  walk_can p e =
       let low : p.0 < st.count = omega (arith, w.inside.low (r.top - 1) (omega arith)) in
       let fits : Fits (told k).parts (term_in st p.0) =
       subst (λ (j : ℕ). Fits (told k).parts (term_in st j)) (sym e) both_fit.0 in
-      record { book = book; sound = sound; left = low; right = low; left_fits = fits; right_fits = fits }
+      record { left = low; right = low; left_fits = fits; right_fits = fits }
 
   pub walk_found : Equated (told k).eqs next_term next_term → One (told k).eqs (held st q base) (held st q base)
   walk_found h = itself_one (w.back (subst (Itselves (told k).eqs) (sym pending) (next_term, in_this itself, h)))
@@ -232,8 +231,6 @@ module _ (k : Book) (st : Store) (q : Roots) (two : TwoTerms k st q) where
 
   pub walkable : Walkable k st q
   walkable = record {
-    book = two.book;
-    sound = two.sound;
     inside = two.inside;
     some = omega (arith, two.two);
     fits = subst (λ (n : ℕ). Fits (told k).parts (held st q n)) (sym one_left) two.second;
@@ -260,8 +257,6 @@ module _ (k : Book) (st : Store) (q : Roots) (two : TwoTerms k st q) where
   module _ (x y : Place) (ex : x.0 ≡ root_in q 0) (ey : y.0 ≡ root_in q 1) where
     pub step_can : Comparable k st x y
     step_can = record {
-      book = two.book;
-      sound = two.sound;
       left = omega (arith, two.inside.low 0 (omega (arith, two.two)));
       right = omega (arith, two.inside.low 1 (omega (arith, two.two)));
       left_fits = subst (λ (i : ℕ). Fits (told k).parts (term_in st i)) (sym ex) two.first;

@@ -1,8 +1,9 @@
 -- Both sides of an equation matched with two terms.
-use Rattle.std.proofs.Common.{◌≡◌, ℕ, ◌<◌, Bool, true, false, ◌⊎◌, length, replicate, None, sym, subst, arith}
+use Rattle.std.proofs.Common.{◌≡◌, ℕ, ◌<◌, Bool, true, false, ◌⊎◌, List, length, replicate, None, Some, Option, sym, subst, arith}
 use Rattle.std.specs.Prelude.{◌≤◌, MatchBool, HoldsAt, slice_index_or as get_or}
 use Rattle.std.specs.List.{range_with_len}
 use Rattle.std.proofs.lemmas.List.FromFn.{length-range_with_len, get_or-range_with_len}
+use Rattle.std.specs.Option.{is_some}
 use borrow.Author.Tests.{clash}
 use Rattle.rewriting.specs.Answers.{Tells}
 use Rattle.rewriting.specs.Terms.{Term}
@@ -10,39 +11,45 @@ use Rattle.rewriting.specs.Rules.{Eq}
 use Rattle.store.specs.declared.types.Store.{Store}
 use Rattle.store.specs.declared.types.Place.{Place}
 use Rattle.books.specs.declared.row.Book.{Book}
-use Rattle.books.specs.Books.{told, blank, equation_in, EquationAt}
+use Rattle.books.specs.Books.{told, sound_book_in, blank, equation_in}
+use Rattle.books.specs.Rows.{row}
 use Rattle.books.proofs.Bookish.{is_equation, equation_sides}
 use Rattle.books.proofs.Elements.{nth_below, nth_is}
 use Rattle.engine.specs.declared.types.Bindings.{Bindings}
-use Rattle.engine.specs.Matching.{Agrees, put_in, MatchedOn, Pattern}
-use Rattle.engine.proofs.Matcher.{unbound, all_agree}
+use Rattle.engine.specs.Matching.{Agrees, nothing, put_in, MatchedOn, Pattern}
+use Rattle.engine.proofs.Matcher.{fresh_is, unbound, all_agree}
 use Rattle.ways.specs.Steps.{SidesAre, Equated, Comparable}
 
-module _ (k : Book) (st : Store) (p q : Place) (can : Comparable k st p q) (i : ℕ) (low : i < length (told k).eqs) where
-  pub left_pattern : (a m z : ℕ) → EquationAt k i a m z → Pattern (told k).parts k.words.now a m (equation_in k i).left st p
-  left_pattern a m z e =
-      let sides = equation_sides k can.book i low in
-      record { over = sides.left; at = e.left; short = sides.left_size; fits = can.left_fits }
+module _ (k : Book) (st : Store) (p q : Place) (can : Comparable k st p q) (i : ℕ) (low : i < length (told k).eqs) (ws : List ℕ) where
+  pub left_pattern : ws ≡ row (equation_in k i).left → Pattern (told k).parts ws (equation_in k i).left st p
+  left_pattern e =
+      let sides = equation_sides k (sound_book_in k) i low in
+      record { over = sides.left; written = e; short = sides.left_size; fits = can.left_fits }
 
-  pub right_pattern : (a m z : ℕ) → EquationAt k i a m z → Pattern (told k).parts k.words.now m z (equation_in k i).right st q
-  right_pattern a m z e =
-      let sides = equation_sides k can.book i low in
-      record { over = sides.right; at = e.right; short = sides.right_size; fits = can.right_fits }
+  pub right_pattern : ws ≡ row (equation_in k i).right → Pattern (told k).parts ws (equation_in k i).right st q
+  right_pattern e =
+      let sides = equation_sides k (sound_book_in k) i low in
+      record { over = sides.right; written = e; short = sides.right_size; fits = can.right_fits }
 
-module _ (st : Store) (e : Eq) (t u : Term) (b c : Bindings) (fresh : b.at ≡ replicate 32 None) where
-  none_yet : (s : ℕ → Term) → Agrees st b s
-  none_yet s x r k = absurd (unbound b fresh x r k)
+module _ (st : Store) (e : Eq) (t u : Term) where
+  none_yet : (s : ℕ → Term) → Agrees st nothing s
+  none_yet s x r k = absurd (unbound x r k)
 
-  pub left_fails : MatchedOn st b e.left t c false → Tells false (SidesAre e t u)
-  left_fails h = record { holds = λ d. absurd (clash d); fails = λ d m. h m.0 (none_yet m.0) m.1 }
+  pub first_matched : (b : Bindings) → b.at ≡ replicate 32 None → (m : Option Bindings) → MatchedOn st b e.left t m →
+      MatchedOn st nothing e.left t m
+  first_matched b fresh m = subst (λ (c : Bindings). MatchedOn st c e.left t m) (fresh_is b fresh)
 
-  pub both_matched : (d : Bindings) (x : Bool) → MatchedOn st b e.left t c true → MatchedOn st c e.right u d x →
-      Tells x (SidesAre e t u)
-  both_matched d true h g =
+  pub left_fails : MatchedOn st nothing e.left t None → (x : Option Bindings) → x ≡ None → Tells (is_some x) (SidesAre e t u)
+  left_fails h x is = subst (λ (y : Option Bindings). Tells (is_some y) (SidesAre e t u)) (sym is)
+      (record { holds = λ d. absurd (clash d); fails = λ d m. h m.0 (none_yet m.0) m.1 })
+
+  pub both_matched : (c : Bindings) → MatchedOn st nothing e.left t (Some c) → (x : Option Bindings) → MatchedOn st c e.right u x →
+      Tells (is_some x) (SidesAre e t u)
+  both_matched c h (Some d) g =
       let s = put_in st d in
       let m = g.enough s (all_agree st d) in
       record { holds = λ z. (s, (h.enough s m.0).1, m.1); fails = λ z. absurd (clash (sym z)) }
-  both_matched d false h g = record {
+  both_matched c h None g = record {
     holds = λ z. absurd (clash z);
     fails = λ z m. g m.0 (h.needed m.0 (none_yet m.0) m.1) m.2;
   }
@@ -53,7 +60,7 @@ NoneBelow k n t u = (i : ℕ) → i < n → SidesAre (equation_in k i) t u ⊎ S
 
 pub by_equation : (k : Book) (st : Store) (p q : Place) → Comparable k st p q → (i : ℕ) → i < length (told k).eqs → (t u : Term) →
     SidesAre (equation_in k i) t u ⊎ SidesAre (equation_in k i) u t → Equated (told k).eqs t u
-by_equation k st p q can i low t u s = record { index = i; equation = equation_in k i; has = is_equation k can.book i low; sides = s }
+by_equation k st p q can i low t u s = record { index = i; equation = equation_in k i; has = is_equation k (sound_book_in k) i low; sides = s }
 
 pub none_equated : (k : Book) (n : ℕ) (t u : Term) → length (told k).eqs ≡ n → NoneBelow k n t u → Equated (told k).eqs t u → ⊥
 none_equated k n t u z none h =

@@ -7,7 +7,7 @@ use Rattle.store.specs.declared.types.Store.{Store}
 use Rattle.store.specs.declared.types.Roots.{Roots}
 use Rattle.store.specs.Stores.{Sound, Carried, terms_down}
 use Rattle.books.specs.declared.row.Book.{Book}
-use Rattle.books.specs.Books.{told, SoundBook}
+use Rattle.books.specs.Books.{told}
 use Rattle.books.specs.Rows.{row, rowTerms, rowWays, AllFit}
 
 -- there is room to read n words beside what the roots hold
@@ -17,8 +17,6 @@ pub record RoomFor (st : Store) (q : Roots) (n : ℕ) : Type 0 where
 
 -- slots and cells enough for the words of a book and of ways
 pub record Roomy (k : Book) (h : List ℕ) (st : Store) (q : Roots) : Type 0 where
-  pub book : SoundBook k
-  pub sound : Sound st
   pub slots : length k.words.now + length h < st.room
   pub cells : length k.words.now + length h + 2 ≤ length q.cells.now
 

@@ -9,10 +9,10 @@ use Rattle.store.specs.declared.types.Store.{Store}
 use Rattle.store.specs.declared.types.Roots.{Roots}
 use Rattle.store.specs.declared.types.Place.{Place}
 use Rattle.store.specs.Roots.{HasRoots}
-use Rattle.store.specs.Stores.{Sound, term_in, arity_in, part_in, held, Inside}
+use Rattle.store.specs.Stores.{term_in, arity_in, part_in, held, Inside}
 use Rattle.store.specs.Transfers.{SymbolWritten, RootsBelow}
 use Rattle.books.specs.declared.row.Book.{Book}
-use Rattle.books.specs.Books.{told, SoundBook}
+use Rattle.books.specs.Books.{told}
 
 -- with something put for its letters, the two sides of e are t and u
 abbrev pub SidesAre : Eq → Term → Term → Type 0
@@ -39,8 +39,6 @@ Itselves es ts = (v : Term) × Parts v ts × Equated es v v
 
 -- two places of the store whose terms are over the book's signature
 pub record Comparable (k : Book) (st : Store) (p q : Place) : Type 0 where
-  pub book : SoundBook k
-  pub sound : Sound st
   pub left : p.0 < st.count
   pub right : q.0 < st.count
   pub left_fits : Fits (told k).parts (term_in st p.0)
@@ -76,8 +74,6 @@ pub record Expanded (st : Store) (q r : Roots) : Type 0 where
 
 -- the term of the uppermost root is over the signature, and there are cells for as many roots as it has letters and signs
 pub record Walkable (k : Book) (st : Store) (q : Roots) : Type 0 where
-  pub book : SoundBook k
-  pub sound : Sound st
   pub inside : Inside st q
   pub some : 0 < q.top
   pub fits : Fits (told k).parts (held st q (q.top - 1))
@@ -91,8 +87,6 @@ pub record Walked (k : Book) (st : Store) (q r : Roots) (x : Bool) : Type 0 wher
 
 -- two roots whose terms are over the signature, and cells for as many roots as the second has letters and signs
 pub record TwoTerms (k : Book) (st : Store) (q : Roots) : Type 0 where
-  pub book : SoundBook k
-  pub sound : Sound st
   pub inside : Inside st q
   pub two : q.top ≡ 2
   pub first : Fits (told k).parts (held st q 0)

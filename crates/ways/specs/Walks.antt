@@ -1,8 +1,8 @@
 -- What a walk keeps, and what it is while a way is followed.
 use Rattle.std.specs.Prelude.{◌≡◌, ◌+◌, ◌*◌, ◌≤◌, length}
 use Rattle.rewriting.specs.Terms.{size, Fits}
-use Rattle.store.specs.Stores.{Sound, held, Inside}
-use Rattle.books.specs.Books.{told, SoundBook}
+use Rattle.store.specs.Stores.{held, Inside}
+use Rattle.books.specs.Books.{told}
 use Rattle.ways.specs.declared.walk.Walk.{Walk}
 use Rattle.ways.specs.Showing.{WentOn}
 
@@ -24,8 +24,6 @@ pub record OnlyRoots (w v : Walk) : Type 0 where
 
 -- the only root's term is over the signature, and no longer than the words of the book and of the ways
 pub record UnderWay (w : Walk) : Type 0 where
-  pub book : SoundBook w.book.now
-  pub sound : Sound w.store.now
   pub inside : Inside w.store.now w.roots.now
   pub one : w.roots.now.top ≡ 1
   pub fits : Fits (told w.book.now).parts (held w.store.now w.roots.now 0)

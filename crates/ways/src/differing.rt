@@ -1,13 +1,13 @@
 // The only part in which two terms differ.
 ghost use Rattle.std.specs.Prelude.{◌≡◌, ◌<◌, ◌≤◌};
-ghost use Rattle.store.specs.Stores.{Sound, arity_in};
+ghost use Rattle.store.specs.Stores.{arity_in};
 ghost use Rattle.ways.specs.Steps.{FirstDifference, OnlyDifference};
 
 use store::{Node, Place, Store};
 
 // The first of the parts from one on, of n that the terms at p and q have, in which they differ.
 fn first_difference(store: &Store, p: Place, q: Place, from: usize, n: usize) -> Option<usize>
-    requires sound { (Sound store.now) × ((p.0 < store.now.count) × (q.0 < store.now.count)) }
+    requires places { (p.0 < store.now.count) × (q.0 < store.now.count) }
     requires arity { (arity_in store.now p.0 ≡ n) × (arity_in store.now q.0 ≡ n) }
     ensures { FirstDifference store.now p q n from result }
 {
@@ -16,7 +16,7 @@ fn first_difference(store: &Store, p: Place, q: Place, from: usize, n: usize) ->
 
 // The only part in which the terms at p and q differ, if they have one sign.
 pub fn only_difference(store: &Store, p: Place, q: Place) -> Option<usize>
-    requires { (Sound store.now) × ((p.0 < store.now.count) × (q.0 < store.now.count)) }
+    requires { (p.0 < store.now.count) × (q.0 < store.now.count) }
     ensures { OnlyDifference store.now p q result }
 {
     let node = store.view(p);

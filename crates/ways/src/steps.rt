@@ -4,7 +4,7 @@ ghost use Rattle.rewriting.specs.Answers.{Tells};
 ghost use Rattle.rewriting.specs.Terms.{count};
 ghost use Rattle.rewriting.specs.Ways.{One};
 ghost use Rattle.store.specs.Roots.{HasRoots};
-ghost use Rattle.store.specs.Stores.{Sound, Inside, held, term_in};
+ghost use Rattle.store.specs.Stores.{Inside, held, term_in};
 ghost use Rattle.store.specs.Transfers.{inner};
 ghost use Rattle.books.specs.Books.{told};
 ghost use Rattle.ways.specs.Steps.{Comparable, Expanded, Walkable, Walked, TwoTerms, StepTold};
@@ -36,7 +36,7 @@ impl Walk<'_, '_, '_> {
 
     // Puts the parts of the uppermost root's term in its place.
     fn expand(&mut self)
-        requires sound { (Sound self.old.store.now) × ((Inside self.old.store.now self.old.roots.now) × (0 < self.old.roots.now.top)) }
+        requires some { (Inside self.old.store.now self.old.roots.now) × (0 < self.old.roots.now.top) }
         requires has_roots { HasRoots self.old.roots.now.cells.now
             (self.old.roots.now.top - 1 + count (inner (held self.old.store.now self.old.roots.now (self.old.roots.now.top - 1)))) }
         ensures only { OnlyRoots self.old self.new }
@@ -59,6 +59,7 @@ impl Walk<'_, '_, '_> {
         ensures walked { Walked self.old.book.now self.old.store.now self.old.roots.now self.new.roots.now result }
     {
         let base = self.roots.top - 1;
+        // Stays a loop over the roots: they are the stack of the parts that are still to be looked at.
         while self.roots.top > base {
             let top = self.roots.top - 1;
             let p = self.roots.place(top);

@@ -1,5 +1,5 @@
 // Equations at the top of two terms.
-ghost use Rattle.std.specs.Prelude.{◌<◌, length};
+ghost use Rattle.std.specs.Prelude.{◌<◌, length, is_some};
 ghost use Rattle.rewriting.specs.Answers.{Tells};
 ghost use Rattle.store.specs.Stores.{term_in};
 ghost use Rattle.books.specs.Books.{told, equation_in};
@@ -11,17 +11,14 @@ use engine::types::Bindings;
 use store::Place;
 
 impl Walk<'_, '_, '_> {
-    // Whether the sides of equation i, with the same put for their letters, are the terms at p and q. A letter may stand on one side only.
-    fn leads(&self, i: usize, p: Place, q: Place) -> bool
+    // What is put for the letters of equation i, so that its sides are the terms at p and q. A letter may stand on one side only.
+    fn matched(&self, i: usize, p: Place, q: Place) -> Option<Bindings>
         requires { (Comparable self.now.book.now self.now.store.now p q) × (i < length (told self.now.book.now).eqs) }
-        ensures { Tells result (SidesAre (equation_in self.now.book.now i) (term_in self.now.store.now p.0)
+        ensures { Tells (is_some result) (SidesAre (equation_in self.now.book.now i) (term_in self.now.store.now p.0)
             (term_in self.now.store.now q.0)) }
     {
-        let words = self.book.words;
-        let sides = self.book.equation(i);
-        let mut bindings = Bindings::new();
-        match_pattern(words, sides.left, sides.right, self.store, p, &mut bindings)
-            && match_pattern(words, sides.right, sides.end, self.store, q, &mut bindings)
+        let bindings = match_pattern(self.book.equation_left(i), self.store, p, Bindings::new())?;
+        match_pattern(self.book.equation_right(i), self.store, q, bindings)
     }
 
     // Whether an equation leads from the term at p to that at q at the top, either way round.
@@ -30,6 +27,7 @@ impl Walk<'_, '_, '_> {
         ensures { Tells result (Equated (told self.now.book.now).eqs (term_in self.now.store.now p.0)
             (term_in self.now.store.now q.0)) }
     {
-        (0..self.book.layout.equations()).any(|i| self.leads(i, p, q) || self.leads(i, q, p))
+        (0..self.book.layout.equations()).any(|i| self.matched(i, p, q).is_some()
+            || self.matched(i, q, p).is_some())
     }
 }

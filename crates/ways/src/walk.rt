@@ -2,10 +2,10 @@
 ghost use Rattle.std.specs.Prelude.{◌≡◌, ◌+◌, ◌<◌, ◌≤◌, length, is_some};
 ghost use Rattle.rewriting.specs.Answers.{Tells};
 ghost use Rattle.rewriting.specs.Terms.{Term};
-ghost use Rattle.store.specs.Stores.{Sound, Inside, held};
+ghost use Rattle.store.specs.Stores.{Inside, held};
 ghost use Rattle.store.specs.Making.{Stacked};
 ghost use Rattle.store.specs.Transfers.{RowOf};
-ghost use Rattle.books.specs.Books.{SoundBook, told, rule_in};
+ghost use Rattle.books.specs.Books.{told, rule_in};
 ghost use Rattle.books.specs.Rows.{SomeWays};
 ghost use Rattle.ways.specs.Showing.{RoomFor, NextTold, Followed, WayTold, Shown};
 
@@ -29,7 +29,7 @@ impl Walk<'_, '_, '_> {
 
     // Reads the term whose row the words are: one more root holds it.
     fn read(&mut self, words: &[u32])
-        requires sound { (SoundBook self.old.book.now) × ((Sound self.old.store.now) × (Inside self.old.store.now self.old.roots.now)) }
+        requires inside { Inside self.old.store.now self.old.roots.now }
         requires row { (t : Term) × RowOf (told self.old.book.now).parts words.now t }
         requires room { RoomFor self.old.store.now self.old.roots.now (length words.now) }
         ensures kept { Kept self.old self.new }
@@ -87,8 +87,7 @@ impl Walk<'_, '_, '_> {
 
     // Begins the way of rule i: its left side is the only root's term.
     fn begin(&mut self, i: usize)
-        requires sound { (SoundBook self.old.book.now) × (Sound self.old.store.now) }
-        requires rule { i < length (told self.old.book.now).rules }
+        requires { i < length (told self.old.book.now).rules }
         ensures ready { UnderWay self.new }
         ensures kept { Kept self.old self.new }
         ensures term { held self.new.store.now self.new.roots.now 0 ≡ (rule_in self.old.book.now i).left }
@@ -100,8 +99,7 @@ impl Walk<'_, '_, '_> {
 
     // Whether the terms at a place of the ways, as many as are said, lead from the left side of rule i to its right side: where they end.
     fn way(&mut self, i: usize, from: usize, count: usize) -> Option<usize>
-        requires sound { (SoundBook self.old.book.now) × (Sound self.old.store.now) }
-        requires rule { i < length (told self.old.book.now).rules }
+        requires { i < length (told self.old.book.now).rules }
         ensures kept { Kept self.old self.new }
         ensures told { WayTold self.old.book.now self.old.ways.now from count (rule_in self.old.book.now i) result }
     {
@@ -113,8 +111,7 @@ impl Walk<'_, '_, '_> {
 
     // Whether each rule is shown by its way: where the last one ends.
     fn each(&mut self) -> Option<usize>
-        requires sound { (SoundBook self.old.book.now) × (Sound self.old.store.now) }
-        requires ways { SomeWays (told self.old.book.now).parts (length (told self.old.book.now).rules) self.old.ways.now }
+        requires { SomeWays (told self.old.book.now).parts (length (told self.old.book.now).rules) self.old.ways.now }
         ensures kept { Kept self.old self.new }
         ensures told { Tells (is_some result) (Shown self.old.book.now self.old.ways.now) }
     {
@@ -129,8 +126,7 @@ impl Walk<'_, '_, '_> {
 
     // The same, and no root is left.
     pub fn shows(&mut self) -> bool
-        requires sound { (SoundBook self.old.book.now) × (Sound self.old.store.now) }
-        requires ways { SomeWays (told self.old.book.now).parts (length (told self.old.book.now).rules) self.old.ways.now }
+        requires { SomeWays (told self.old.book.now).parts (length (told self.old.book.now).rules) self.old.ways.now }
         ensures none { self.new.roots.now.top ≡ 0 }
         ensures kept { Kept self.old self.new }
         ensures told { Tells result (Shown self.old.book.now self.old.ways.now) }

@@ -3,7 +3,7 @@
 
 #[cfg(test)]
 mod tests {
-    use books::{Book, read_book};
+    use books::Book;
     use notation::parse;
     use std::alloc::Global;
     use std::test::Fail;
@@ -12,8 +12,7 @@ mod tests {
 
     // Whether the ways show that the rules follow, if the words are a book's and there is room.
     fn shows(words: &[u32], ways: &[u32], slots: &mut [u32], cells: &mut [u32]) -> Option<bool> {
-        let layout = read_book(words)?;
-        let book = Book { words, layout };
+        let book = Book::read(words)?;
         let mut store = Store::open(slots)?;
         let mut roots = Roots::new(cells);
         let n = words.len() + ways.len();

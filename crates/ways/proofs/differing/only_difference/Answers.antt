@@ -13,7 +13,7 @@ pub returns-in_err-k : goal.returns-in_err-k
 returns-in_err-k c =
     let same : c.view-node.result ≡ c.view.result = search rules in
     subst (OnlyDifference c.args.store.now c.args.p c.args.q) (sym c.from_residual.ensures)
-    (no_difference c.args.store.now c.args.p c.args.q c.requires.0 c.requires.1.0 c.requires.1.1 c.in-Sign.field-0 c.in-Sign.n
+    (no_difference c.args.store.now c.args.p c.args.q c.requires.0 c.requires.1 c.in-Sign.field-0 c.in-Sign.n
     (subst (Shows c.args.store.now c.args.p.0) c.in-Sign.is c.view-node.ensures)
     (subst (Shows c.args.store.now c.args.q.0) (sym same ∙ c.in-Sign.is) c.view.ensures) c.in_err-k.ensures)
 
@@ -21,7 +21,7 @@ pub returns : goal.returns
 returns c =
     let same : c.view-node.result ≡ c.view.result = search rules in
     let k = c.in_ok-k.ensures in
-    first_or_only c.args.store.now c.args.p c.args.q c.requires.0 c.requires.1.0 c.requires.1.1 c.in-Sign.field-0 c.in-Sign.n
+    first_or_only c.args.store.now c.args.p c.args.q c.requires.0 c.requires.1 c.in-Sign.field-0 c.in-Sign.n
     (subst (Shows c.args.store.now c.args.p.0) c.in-Sign.is c.view-node.ensures)
     (subst (Shows c.args.store.now c.args.q.0) (sym same ∙ c.in-Sign.is) c.view.ensures)
     c.in_ok-k.k k.1 k.2 k.3 _ _ c.first_difference-later.ensures c.is_none.ensures _ c.then_some.ensures

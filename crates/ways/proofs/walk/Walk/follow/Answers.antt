@@ -11,7 +11,7 @@ loop-init c =
     let t = held w.store.now w.roots.now 0 in
     let all : c.args.count ≡ c.args.count - 0 = omega arith in (
       c.requires,
-      kept_same w c.requires.sound,
+      kept_same w,
       subst (λ (m : ℕ). Follows w.book.now w.ways.now c.args.from c.args.count t c.args.from m t) all
           (follows_start w.book.now w.ways.now c.args.from c.args.count t),
     )

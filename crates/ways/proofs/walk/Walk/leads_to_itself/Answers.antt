@@ -21,7 +21,7 @@ equated-requires c =
     let w = c.args.self.now in
     comparable_on w c.loop-self.self c.loop-self.invariant.0 c.place-p.result c.place-p.result
     (walk_can w.book.now w.store.now (w.roots.now.top - 1) w.roots.now c.loop-self.self.roots.now
-    c.loop-self.invariant.1 c.loop-self-test.true c.requires.book c.requires.sound c.place-p.result c.place-p.ensures)
+    c.loop-self.invariant.1 c.loop-self-test.true c.place-p.result c.place-p.ensures)
 
 pub returns-then-equated-clause-walked : goal.returns-then-equated-clause-walked
 returns-then-equated-clause-walked c =

@@ -9,7 +9,7 @@ use Rattle.ways.proofs.Rooms.{row_of}
 use Rattle.ways.proofs.walk.Walk.next.Goals as goal
 
 pub returns-in_err-end-clause-kept : goal.returns-in_err-end-clause-kept
-returns-in_err-end-clause-kept c = kept_same c.args.self.now c.requires.sound
+returns-in_err-end-clause-kept c = kept_same c.args.self.now
 
 pub returns-clause-kept : goal.returns-clause-kept
 returns-clause-kept c =

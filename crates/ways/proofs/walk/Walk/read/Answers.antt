@@ -5,9 +5,8 @@ use Rattle.ways.proofs.Following.{few_parts}
 use Rattle.ways.proofs.Rooms.{row_fits}
 use Rattle.ways.proofs.walk.Walk.read.Goals as goal
 
-pub read_row-requires-clause-sound : goal.read_row-requires-clause-sound
-read_row-requires-clause-sound c =
-    (c.requires.sound.1.0, (c.requires.sound.1.1, few_parts c.args.self.now.book.now c.requires.sound.0 c.parts.result.now c.parts.ensures))
+pub read_row-requires-clause-inside : goal.read_row-requires-clause-inside
+read_row-requires-clause-inside c = (c.requires.inside, few_parts c.args.self.now.book.now c.parts.result.now c.parts.ensures)
 
 pub unwrap-requires : goal.unwrap-requires
 unwrap-requires c =

@@ -2,7 +2,7 @@
 use Rattle.std.proofs.Common.{None, Some, sym, subst}
 use Rattle.store.specs.Stores.{held}
 use Rattle.ways.specs.Showing.{WayTold}
-use Rattle.ways.proofs.Following.{kept_then, sound_on, rule_on, right_on, followed_on, right_row, right_short, way_stop, way_told}
+use Rattle.ways.proofs.Following.{kept_then, rule_on, right_on, followed_on, right_row, right_short, way_stop, way_told}
 use Rattle.ways.proofs.walk.Walk.way.Goals as goal
 
 pub returns-in_err-end-clause-kept : goal.returns-in_err-end-clause-kept
@@ -22,14 +22,14 @@ is_held-requires-clause-row c =
     let w = c.args.self.now in
     let x = c.follow.new.self in
     let on = kept_then w c.begin.new.self x c.begin.ensures.kept c.follow.ensures.kept in
-    (_, right_row x.book.now (sound_on w x on c.requires.sound.0) c.args.i (rule_on w x on c.args.i c.requires.rule) _ c.right-right.ensures)
+    (_, right_row x.book.now c.args.i (rule_on w x on c.args.i c.requires) _ c.right-right.ensures)
 
 pub is_held-requires-clause-short : goal.is_held-requires-clause-short
 is_held-requires-clause-short c =
     let w = c.args.self.now in
     let x = c.follow.new.self in
     let on = kept_then w c.begin.new.self x c.begin.ensures.kept c.follow.ensures.kept in
-    right_short x.book.now (sound_on w x on c.requires.sound.0) c.args.i (rule_on w x on c.args.i c.requires.rule) _ c.right-right.ensures
+    right_short x.book.now c.args.i (rule_on w x on c.args.i c.requires) _ c.right-right.ensures
 
 pub returns-clause-kept : goal.returns-clause-kept
 returns-clause-kept c =
@@ -43,8 +43,8 @@ returns-clause-told c =
     let x = c.follow.new.self in
     let end = c.in_ok-end.end in
     let on = kept_then w c.begin.new.self x c.begin.ensures.kept c.follow.ensures.kept in
-    let same = c.is_held.ensures.told _ (right_row x.book.now (sound_on w x on c.requires.sound.0) c.args.i
-    (rule_on w x on c.args.i c.requires.rule) _ c.right-right.ensures) in
+    let same = c.is_held.ensures.told _ (right_row x.book.now c.args.i
+    (rule_on w x on c.args.i c.requires) _ c.right-right.ensures) in
     subst (WayTold w.book.now w.ways.now c.args.from c.args.count _) (sym c.then_some.ensures)
     (way_told w.book.now w.ways.now c.args.i _ c.begin.ensures.term c.args.from c.args.count _ end
     (followed_on w c.begin.new.self c.begin.ensures.kept c.args.from c.args.count _ _ (Some end) c.in_ok-end.ensures.told)
