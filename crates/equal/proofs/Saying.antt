@@ -1,5 +1,6 @@
 -- From what was found of a book to what is said of its words.
-use Rattle.std.proofs.Common.{◌≡◌, ℕ, List, length, Some, sym, subst, arith}
+use Rattle.std.proofs.Common.{◌≡◌, ℕ, List, length, Some, Ok, Err, Result, sym, refl, subst, arith}
+use Rattle.std.specs.Result.{result_unwrap_or}
 use Rattle.rewriting.specs.Rules.{Eq, Meet}
 use Rattle.rewriting.specs.Order.{rank, Greater, AllDown}
 use Rattle.rewriting.specs.Books.{Book as Told}
@@ -11,13 +12,14 @@ use Rattle.books.proofs.Elements.{nth_is}
 use Rattle.books.proofs.Bookish.{is_rule, is_equation}
 use Rattle.books.proofs.Unique.{the_book}
 use Rattle.order.specs.Downward.{FirstUp}
+use Rattle.engine.specs.declared.types.NoRoom.{NoRoom}
 use Rattle.engine.specs.declared.work.Work.{Work}
 use Rattle.engine.specs.Running.{Honest}
 use Rattle.engine.specs.Meeting.{Working, LeftIdle}
 use Rattle.equal.specs.declared.types.Judged.{Judged}
 use Rattle.equal.specs.declared.types.Judged.TheVariants.{Settles, Up, Apart, Lost, Stray, NoBook, Room, Few}
 use Rattle.equal.specs.Promises.{JudgedSays}
-use Rattle.equal.specs.Judging.{AmpleWith, RulesSay, Growing, RoomFor, OpenStore, JudgedIn}
+use Rattle.equal.specs.Judging.{AmpleWith, RulesSay, Growing, RoomFor, OpenStore, JudgedIn, or_room}
 
 module _ (k : Book) (sound : SoundBook k) (h : List ℕ) where
   -- the first rule that goes up
@@ -70,9 +72,7 @@ module _ (k : Book) (sound : SoundBook k) (h : List ℕ) where
     other_idle : LeftIdle k w v → (j : Book) → SoundBook j → j.words.now ≡ k.words.now → LeftIdle j w v
     other_idle idle j good e = record {
       working = record {
-        book = good;
         down = subst (λ (ws : List ℕ). AllDown (rank (book_of ws).ranks) (book_of ws).rules) (sym e) idle.working.down;
-        sound = idle.working.sound;
         honest = subst (λ (ws : List ℕ). Honest (book_of ws).rules v.store) (sym e) idle.working.honest;
       };
       room = idle.room;
@@ -101,7 +101,7 @@ judged_none s h n w v none = record {
 
 -- a store that serves for any book serves for this one
 pub working : (k : Book) → SoundBook k → AllDown (rank (told k).ranks) (told k).rules → (w : Work) → OpenStore w → Working k w.store
-working k sound down w o = record { book = sound; down = down; sound = o.sound; honest = o.honest (told k).rules }
+working k sound down w o = record { down = down; honest = o.honest (told k).rules }
 
 pub ample_with : (k : Book) (h : List ℕ) (n : ℕ) (w : Work) → RoomFor k.words.now h n w →
     AmpleWith k (length h) n w
@@ -109,3 +109,8 @@ ample_with k h n w room = record {
   for_book = record { ample = room.ample; slots = room.slots; long = omega (arith, room.long) };
   long = room.long;
 }
+
+-- the answer, or that there is no room
+pub room_or : (x : Result Judged NoRoom) → result_unwrap_or x Room ≡ or_room x
+room_or (Ok j) = refl
+room_or (Err e) = refl

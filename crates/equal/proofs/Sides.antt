@@ -26,11 +26,11 @@ module _ (b : Book) (sound : SoundBook b) (i : ℕ) (low : i < length (told b).e
   right_fits = over_fits (told b).parts SmallLetter (equation_in b i).right (equation_sides b sound i low).right
 
   -- where its sides stand
+  abbrev start : ℕ → ℕ
+  start k = get_or b.layout.starts k 0
+
   stands : EquationAt b i (start (2 * i)) (start (2 * i + 1)) (start (2 * i + 2))
   stands = equation_at b sound i low (start (2 * i)) (start (2 * i + 1)) (start (2 * i + 2)) refl refl refl
-    where
-      abbrev start : ℕ → ℕ
-      start k = get_or b.layout.starts k 0
 
   -- its sides as rows
   module _ (ls rs : List ℕ) (left : ls ≡ row (equation_in b i).left) (right : rs ≡ row (equation_in b i).right) where

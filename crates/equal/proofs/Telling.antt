@@ -10,7 +10,7 @@ use Rattle.rewriting.proofs.Stepping.{trans}
 use Rattle.rewriting.proofs.Terminating.{steps_keep}
 use Rattle.rewriting.proofs.Signature.{over_fits}
 use Rattle.books.specs.declared.row.Book.{Book}
-use Rattle.books.specs.Books.{told}
+use Rattle.books.specs.Books.{told, sound_book_in}
 use Rattle.books.specs.Rows.{Of}
 use Rattle.books.proofs.Glueing.{row_length}
 use Rattle.engine.specs.declared.types.NoRoom.{NoRoom}
@@ -61,7 +61,7 @@ module _ (b : Book) (wk : Work) (working : Working b wk.store) (settled : IsSett
         u,
         k.left,
         k.right,
-        λ e. differ (one_normal (told b) working.book.reads.fine working.down settled t u v w ft fu
+        λ e. differ (one_normal (told b) (sound_book_in b).reads.fine working.down settled t u v w ft fu
             hv dv hw dw ((settled.equal t u ft fu).0 e)),
       )
 

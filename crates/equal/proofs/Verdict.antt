@@ -5,7 +5,7 @@ use Rattle.rewriting.specs.Answers.{Tells}
 use Rattle.rewriting.specs.Books.{OneEnd, NoLess}
 use Rattle.store.specs.declared.types.Store.{Store}
 use Rattle.store.specs.declared.types.Roots.{Roots}
-use Rattle.store.specs.Stores.{Sound, Carried}
+use Rattle.store.specs.Stores.{Carried}
 use Rattle.books.specs.declared.row.Book.{Book}
 use Rattle.books.specs.Books.{told, SoundBook, equation_in}
 use Rattle.books.proofs.Bookish.{is_equation}
@@ -24,14 +24,12 @@ side_large b sound n i low (u, steps, large) = at steps
     at (inr h) = ((equation_in b i).right, u, inr (i, equation_in b i, is_equation b sound i low, inr refl), h, large)
 
 -- the store may have changed as long as its flags and notes go back to those that were right
-pub idle_carried : (b : Book) (w v : Work) → LeftIdle b w v → (st : Store) (q : Roots) → Sound st → Carried v.store st →
+pub idle_carried : (b : Book) (w v : Work) → LeftIdle b w v → (st : Store) (q : Roots) → Carried v.store st →
     st.room ≡ v.store.room → length q.cells.now ≡ length v.roots.cells.now → q.top ≡ 0 →
     LeftIdle b w (record { store = st; roots = q; frames = v.frames })
-idle_carried b w v idle st q sound carried room cells none = record {
+idle_carried b w v idle st q carried room cells none = record {
   working = record {
-    book = idle.working.book;
     down = idle.working.down;
-    sound = sound;
     honest = honest_carried (told b).rules v.store st idle.working.honest carried;
   };
   room = room ∙ idle.room;

@@ -33,9 +33,12 @@ pub fn judge_rules(book: &Book, ways: &[u32], work: &mut Work) -> Result<Judged,
     if !one {
         return Ok(Judged::Apart);
     }
-    if let Some(i) = first_lost(book, work)? {
-        return Ok(Judged::Lost(i));
+    let lost = first_lost(book, work)?;
+    match lost {
+        Some(i) => Ok(Judged::Lost(i)),
+        None => {
+            let shown = shown(book, ways, &mut work.store, &mut work.roots);
+            Ok(by_ways(shown))
+        }
     }
-    let shown = shown(book, ways, &mut work.store, &mut work.roots);
-    Ok(by_ways(shown))
 }

@@ -12,13 +12,7 @@ use engine::types::NoRoom;
 use engine::work::Work;
 
 // Whether both results meet where rule j is used at symbol k of rule i's left side, if the two rules meet there.
-fn results_meet(
-    book: &Book,
-    i: usize,
-    j: usize,
-    k: usize,
-    work: &mut Work,
-) -> Result<bool, NoRoom>
+fn results_meet(book: &Book, i: usize, j: usize, k: usize, work: &mut Work) -> Result<bool, NoRoom>
     requires working { (Working book.now work.old.store) × ((work.old.roots.top ≡ 0) × (((n : ℕ) × Ample n work.old))) }
     requires i_in_bounds { (i < length (told book.now).rules) × (j < length (told book.now).rules) }
     requires k_bound { k < size (rule_in book.now i).left }

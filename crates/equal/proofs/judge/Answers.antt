@@ -6,17 +6,17 @@ use Rattle.equal.proofs.judge.Goals as goal
 
 pub returns-then-too_few : goal.returns-then-too_few
 returns-then-too_few c =
-    judged_few c.args.book.now c.args.ways.now (length c.args.work-1.now) (c.if-too_few.ensures.holds refl)
+    judged_few c.args.book.now c.args.ways.now (length c.args.work.now) (c.if-too_few.ensures.holds refl)
 
 pub returns-in_default : goal.returns-in_default
 returns-in_default c =
-    judged_few c.args.book.now c.args.ways.now (length c.args.work-1.now) (omega (arith, c.in_default.ensures))
+    judged_few c.args.book.now c.args.ways.now (length c.args.work.now) (omega (arith, c.in_default.ensures))
 
 pub judge_in-requires : goal.judge_in-requires
 judge_in-requires c =
     let s = c.args.book.now in
     let h = c.args.ways.now in
-    let w = length c.args.work-1.now in
+    let w = length c.args.work.now in
     let fresh = c.in-Some.ensures.1 in
     record {
       open_store = open_store s h w c.in-Some.work fresh;
@@ -27,7 +27,7 @@ pub returns : goal.returns
 returns c =
     let s = c.args.book.now in
     let h = c.args.ways.now in
-    let w = length c.args.work-1.now in
+    let w = length c.args.work.now in
     let given = c.in-Some.ensures in
     let enough = c.if-too_few.ensures.fails refl in
     judged_post s h w given.0 enough c.in-Some.work c.judge_in.new.work c.judge_in.result

@@ -8,19 +8,19 @@ use Rattle.equal.proofs.tell.Goals as goal
 
 pub returns-then-too_few_with_terms : goal.returns-then-too_few_with_terms
 returns-then-too_few_with_terms c =
-    told_small c.args.book.now c.args.ways.now c.args.one.now c.args.other.now (length c.args.work-1.now)
+    told_small c.args.book.now c.args.ways.now c.args.one.now c.args.other.now (length c.args.work.now)
     (c.if-too_few_with_terms.ensures.holds refl)
 
 pub returns-in_default : goal.returns-in_default
 returns-in_default c =
-    told_small c.args.book.now c.args.ways.now c.args.one.now c.args.other.now (length c.args.work-1.now)
+    told_small c.args.book.now c.args.ways.now c.args.one.now c.args.other.now (length c.args.work.now)
     (omega (arith, c.in_default.ensures))
 
 pub judge_in-requires : goal.judge_in-requires
 judge_in-requires c =
     let s = c.args.book.now in
     let h = c.args.ways.now in
-    let w = length c.args.work-1.now in
+    let w = length c.args.work.now in
     let fresh = c.in-Some.ensures.1 in
     record {
       open_store = open_store s h w c.in-Some.work fresh;
@@ -31,7 +31,7 @@ pub new-settled-requires : goal.new-settled-requires
 new-settled-requires c =
     let s = c.args.book.now in
     let h = c.args.ways.now in
-    let w = length c.args.work-1.now in
+    let w = length c.args.work.now in
     let room = room_for s h w c.in-Some.work c.in-Some.ensures.1
     (λ few. c.if-too_few_with_terms.ensures.fails refl (omega arith)) in
     (c.in-Settles.ensures (most_parts w) room).says
@@ -40,7 +40,7 @@ pub compare-requires : goal.compare-requires
 compare-requires c =
     let s = c.args.book.now in
     let h = c.args.ways.now in
-    let w = length c.args.work-1.now in
+    let w = length c.args.work.now in
     let room = room_for s h w c.in-Some.work c.in-Some.ensures.1
     (λ few. c.if-too_few_with_terms.ensures.fails refl (omega arith)) in
     let k = c.new-settled.result in
@@ -54,7 +54,7 @@ returns-in-Settles c =
     let h = c.args.ways.now in
     let x = c.args.one.now in
     let y = c.args.other.now in
-    let w = length c.args.work-1.now in
+    let w = length c.args.work.now in
     let share = c.in-Some.work in
     let fresh = c.in-Some.ensures.1 in
     let enough = c.if-too_few_with_terms.ensures.fails refl in
@@ -73,7 +73,7 @@ pub returns-in_default-judge_in : goal.returns-in_default-judge_in
 returns-in_default-judge_in c =
     let s = c.args.book.now in
     let h = c.args.ways.now in
-    let w = length c.args.work-1.now in
+    let w = length c.args.work.now in
     let share = c.in-Some.work in
     let given = c.in-Some.ensures in
     let enough = c.if-too_few_with_terms.ensures.fails refl in

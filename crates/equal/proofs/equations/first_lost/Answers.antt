@@ -1,5 +1,6 @@
 -- A turn for each equation.
 use Rattle.std.proofs.Common.{Bool, Ok, subst, arith}
+use Rattle.std.proofs.lemmas.Result.{err_from_is_err_and}
 use Rattle.books.specs.Books.{equation_in, sound_book_in}
 use Rattle.engine.specs.Meeting.{Compares}
 use Rattle.equal.proofs.Sides.{idle_start, idle_on, ample_on, kept_more, kept_all, is_lost}
@@ -49,9 +50,10 @@ pub returns-in_err-meet : goal.returns-in_err-meet
 returns-in_err-meet c =
     let b = c.args.book.now in
     let idle = c.loop-i.invariant.0 in
+    let p = err_from_is_err_and c.from_residual.result c.from_residual.ensures.1 in
     record {
       idle = idle_on b c.args.work.now c.loop-i.work idle c.sides_meet.new.work c.sides_meet.ensures.idle;
-      result = λ n a. rw c.from_residual.ensures (
+      result = λ n a. rw p.1 (
         c.loop-i.i,
         omega (arith, c.loop-i-test.true, c.equations-i-end.ensures, (sound_book_in b).laid.equations),
         c.in_err-meet.ensures.result n (ample_on b c.args.work.now c.loop-i.work idle n a),

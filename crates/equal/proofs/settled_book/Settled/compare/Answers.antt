@@ -1,5 +1,5 @@
 -- The book settles its equations, as each such value says.
-use Rattle.books.specs.Books.{told}
+use Rattle.books.specs.Books.{told, sound_book_in}
 use Rattle.equal.proofs.Deciding.{stable_settles}
 use Rattle.equal.proofs.Excluding.{is_settled}
 use Rattle.equal.proofs.settled_book.Settled.compare.Goals as goal
@@ -11,6 +11,6 @@ compare_terms-requires c =
       (
         c.requires.1,
         is_settled k.book.words.now k.ways.now (stable_settles k.book.words.now k.ways.now k.settles)
-            (told k.book) c.requires.0.book.reads,
+            (told k.book) (sound_book_in k.book).reads,
       ),
     )
