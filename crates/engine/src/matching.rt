@@ -43,6 +43,7 @@ pub fn match_pattern(
 {
     let mut bindings = bindings;
     let mut pending = Pending::new(p);
+    // Stays a loop over numbers: `symbol_at` wants the symbol's place.
     for k in 0..pattern.len() / 2 {
         if !match_symbol(pattern, 2 * k, store, &mut pending, &mut bindings) {
             return None;

@@ -32,6 +32,7 @@ impl Pending {
         requires places_inside { PlacesInside store.now self.old.places self.old.len }
         ensures { Pushed store.now self.old (parts_in store.now p.0 n) self.new }
     {
+        // Stays a loop over numbers: the store gives the parts of a sign by their numbers.
         for k in (0..n).rev() {
             self.places[self.len] = store.part(p, k);
             self.len += 1;

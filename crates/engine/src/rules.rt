@@ -31,6 +31,7 @@ fn find_rule(book: &Book, store: &Store, p: Place) -> Option<(usize, Bindings)>
     let Node::Sign(f, _) = store.view(p) else {
         return None;
     };
+    // Stays a loop over numbers: a book gives its rules by their numbers.
     for i in 0..book.layout.rules() {
         if let Some(bindings) = match_rule(book, i, store, p, f) {
             return Some((i, bindings));

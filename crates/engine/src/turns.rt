@@ -55,6 +55,7 @@ fn push_others(store: &Store, roots: &mut Roots, p: Place, n: usize)
     requires has_roots { HasRoots roots.old.cells.now (roots.old.top + n) }
     ensures { OthersPushed store.now roots.old p.0 n roots.new }
 {
+    // Stays a loop over numbers: the store gives the parts of a sign by their numbers.
     for k in 0..n {
         roots.stack(roots.top, store.part(p, k + 1));
     }

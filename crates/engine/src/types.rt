@@ -8,6 +8,7 @@ pub struct Bindings {
 }
 
 // The places that are still to be matched, the next one last: as many as a side has symbols, and the parts of one more.
+// Stays an array with a length: a new `ArrayVec` is filled with zeros by a memset, which is waited for, as at `Built::new`.
 #[derive(Clone, Copy)]
 pub struct Pending {
     pub places: [Place; 36],
@@ -15,6 +16,7 @@ pub struct Pending {
 }
 
 // The places of terms that are built and not yet parts of another, the next one last: as many as a side has symbols.
+// Stays an array with a length, for the same reason.
 #[derive(Clone, Copy)]
 pub struct Built {
     pub places: [Place; 32],

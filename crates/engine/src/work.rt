@@ -28,12 +28,10 @@ pub fn share_out<'a>(work: &'a mut [u32]) -> Option<Work<'a>>
     let n = (len - LEAST) / 64;
     let (words, rest) = work.split_at_mut(4 * n + 16);
     let (cells, slots) = rest.split_at_mut(6 * n + 256);
-    match Store::open(slots) {
-        Some(store) => Some(Work {
-            store,
-            roots: Roots::new(cells),
-            frames: Frames::new(words),
-        }),
-        None => None,
-    }
+    let store = Store::open(slots)?;
+    Some(Work {
+        store,
+        roots: Roots::new(cells),
+        frames: Frames::new(words),
+    })
 }

@@ -3,7 +3,7 @@
 
 #[cfg(test)]
 mod tests {
-    use books::{Book, read_book};
+    use books::Book;
     use engine::types::NoRoom;
     use engine::work::share_out;
     use notation::parse;
@@ -49,8 +49,7 @@ rules
         right: &[u32],
         work: &mut [u32],
     ) -> Option<Result<bool, NoRoom>> {
-        let layout = read_book(words)?;
-        let book = Book { words, layout };
+        let book = Book::read(words)?;
         if first_up(&book).is_some() {
             return None;
         }
