@@ -1,10 +1,5 @@
 -- What a book that does not settle its equations says of two terms.
 use Rattle.std.proofs.Common.{◌≡◌, ℕ, ◌+◌, List, length, sym, refl, subst, arith}
-use Rattle.books.specs.declared.row.Book.{Book}
-use Rattle.store.specs.declared.types.Store.{Store}
-use Rattle.store.specs.declared.types.Roots.{Roots}
-use Rattle.engine.specs.declared.types.Frames.{Frames}
-use Rattle.engine.specs.Meeting.{Working, LeftIdle}
 use Rattle.equal.specs.declared.types.Judged.{Judged}
 use Rattle.equal.specs.declared.types.Judged.TheVariants.{Settles, Up, Apart, Lost, Stray, NoBook, Room, Few}
 use Rattle.equal.specs.declared.types.Told.{Told}
@@ -43,7 +38,3 @@ module _ (s h x y : List ℕ) (w : ℕ) (enough : TooFew w (length s + (length h
 
   pub told_other : (r : Judged) → (r ≡ Settles → ⊥) → JudgedPost s h w r → (a : Told) → a ≡ not_settled r → ToldPost s h x y w a
   told_other r other p a e = subst (ToldPost s h x y w) (sym e) (at r other p)
-
--- nothing is done
-pub still : (k : Book) (st : Store) (q : Roots) (fr : Frames) → Working k st → q.top ≡ 0 → LeftIdle k st q fr st q fr
-still k st q fr work none = record { working = work; room = refl; cells = refl; words = refl; none = none }

@@ -8,9 +8,8 @@ ghost use Rattle.equal.specs.declared.types.Judged.TheVariants.{Settles};
 ghost use Rattle.equal.specs.Promises.{JudgedSays, JudgedPost, ToldPost};
 ghost use Rattle.equal.specs.Promises.{TooFew};
 
-use engine::types::Frames;
+use engine::work::Work;
 use equal::{Judged, Settled, Told, not_settled, too_few_with_terms};
-use store::{Roots, Store};
 
 // The rows of a book and its ways, and how many work words there are.
 #[derive(Clone, Copy)]
@@ -55,21 +54,18 @@ pub fn settled_answer(
     settled: &Settled<'_, '_>,
     one: &[u32],
     other: &[u32],
-    store: &mut Store,
-    roots: &mut Roots,
-    frames: &mut Frames,
+    work: &mut Work,
 ) -> Told
     requires settles { JudgedSays given.book.now given.ways.now Settles }
     requires book { settled.now.book.words.now ≡ given.book.now }
-    requires working { (Working settled.now.book store.old) × (roots.old.top ≡ 0) }
-    requires ample { Ample (most_parts given.work) store.old roots.old frames.old }
-    ensures idle { LeftIdle settled.now.book store.old roots.old frames.old
-        store.new roots.new frames.new }
+    requires working { (Working settled.now.book work.old.store) × (work.old.roots.top ≡ 0) }
+    requires ample { Ample (most_parts given.work) work.old }
+    ensures idle { LeftIdle settled.now.book work.old work.new }
     ensures told { ToldPost given.entry.book.now given.entry.ways.now one.now other.now
         given.entry.work result }
 {
     if given.too_few(one, other) {
         return Told::Small;
     }
-    settled.compare(one, other, store, roots, frames)
+    settled.compare(one, other, work)
 }

@@ -7,12 +7,10 @@ ghost use Rattle.telling.specs.Session.{Ready};
 use crate::answer::{Given, refused_answer, settled_answer};
 use crate::pairs::{Asking, Pairs};
 use arguments::Stopped;
-use engine::types::Frames;
 use engine::work::{Work, share_out};
 use equal::judging::judge_in;
 use equal::{Judged, Settled, Told, too_few};
 use std::io::Read;
-use store::{Roots, Store};
 
 // Answers each pair of a text.
 fn tell_each<R: Read, F: FnMut(&[u32], &[u32]) -> Told>(
@@ -59,20 +57,18 @@ fn tell_settled<R: Read>(
     reader: &mut R,
     given: Given<'_>,
     settled: &Settled<'_, '_>,
-    store: &mut Store,
-    roots: &mut Roots,
-    frames: &mut Frames,
+    work: &mut Work,
 ) -> Result<(), Stopped>
-    requires { Ready given settled.now.book store.old roots.old frames.old }
+    requires { Ready given settled.now.book work.old }
 {
     tell_each(
         asking,
         reader,
         |one: &[u32], other: &[u32]|
-            requires { Ready given settled.now.book store.now roots.now frames.now }
-            ensures ready { Ready given.exit settled.exit.now.book store.exit.now roots.exit.now frames.exit.now }
+            requires { Ready given settled.now.book work.now }
+            ensures ready { Ready given.exit settled.exit.now.book work.exit.now }
             ensures told { ToldPost given.entry.book.now given.entry.ways.now one.now other.now given.entry.work result }
-        { settled_answer(given, settled, one, other, store, roots, frames) },
+        { settled_answer(given, settled, one, other, work) },
     )
 }
 
@@ -92,24 +88,13 @@ pub fn tell_pairs<'a, R: Read>(
     if too_few(work.len(), book.len(), ways.len()) {
         return tell_refused(asking, reader, given, Judged::Few);
     }
-    let Some(share) = share_out(work) else {
+    let Some(mut work) = share_out(work) else {
         return tell_refused(asking, reader, given, Judged::Few);
     };
-    let Work {
-        mut store,
-        mut roots,
-        mut frames,
-    } = share;
-    match judge_in(book, ways, &mut store, &mut roots, &mut frames) {
-        Judged::Settles => tell_settled(
-            asking,
-            reader,
-            given,
-            &Settled::new(book, ways),
-            &mut store,
-            &mut roots,
-            &mut frames,
-        ),
+    match judge_in(book, ways, &mut work) {
+        Judged::Settles => {
+            tell_settled(asking, reader, given, &Settled::new(book, ways), &mut work)
+        }
         judged => tell_refused(asking, reader, given, judged),
     }
 }

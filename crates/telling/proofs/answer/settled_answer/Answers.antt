@@ -1,14 +1,14 @@
 -- Too few words, or what is found of the terms.
 use Rattle.std.proofs.Common.{length, refl, arith}
+use Rattle.books.specs.Books.{sound_book_in}
 use Rattle.engine.specs.Meeting.{most_parts}
 use Rattle.equal.proofs.Promised.{told_small, short, told_rows}
-use Rattle.telling.proofs.Answering.{still}
+use Rattle.equal.proofs.Sides.{idle_start}
 use Rattle.telling.proofs.answer.settled_answer.Goals as goal
 
 pub returns-then-too_few : goal.returns-then-too_few
 returns-then-too_few c = record {
-  idle = still c.args.settled.now.book c.args.store.now c.args.roots.now c.args.frames.now c.requires.working.0
-      c.requires.working.1;
+  idle = idle_start c.args.settled.now.book c.args.work.now c.requires.working.0 c.requires.working.1;
   told = told_small c.args.given.book.now c.args.given.ways.now c.args.one.now c.args.other.now
       c.args.given.work (c.if-too_few.ensures.holds refl);
 }
@@ -24,7 +24,7 @@ returns c =
     let enough = c.if-too_few.ensures.fails refl in
     let said = c.requires.settles in
     let same = c.requires.book in
-    let sound = c.requires.working.0.book in
+    let sound = sound_book_in k in
     record {
       idle = c.compare.ensures.idle;
       told = told_rows s h x y w enough k sound same said c.compare.result
