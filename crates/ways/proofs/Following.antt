@@ -1,6 +1,6 @@
 -- A way followed term by term.
-use Rattle.std.proofs.Common.{◌≡◌, ℕ, ◌+◌, ◌-◌, ◌*◌, get_or, ◌<◌, ◌≤◌, Bool, true, false, List, [], ◌∷◌, ◌++◌, length, drop, Some, None, Option, sym, refl, ap}
-use Rattle.std.proofs.Common.{◌∙◌, subst, subst₂, append_assoc, append-nil, arith}
+use Rattle.std.proofs.Common.{◌≡◌, ℕ, ◌+◌, ◌-◌, ◌*◌, get_or, ◌<◌, ◌≤◌, Bool, true, false, List, [], ◌∷◌, ◌++◌, length, drop, Some, None, Option}
+use Rattle.std.proofs.Common.{sym, refl, ap, ◌∙◌, subst, subst₂, append_assoc, append-nil, arith}
 use Rattle.rewriting.specs.Answers.{Tells}
 use Rattle.rewriting.specs.Terms.{Term, none1, and1, size, sizes, Fits, SmallLetter}
 use Rattle.rewriting.specs.Rules.{Eq}
@@ -66,7 +66,12 @@ kept_only w v o long = record {
   store_lent = o.store_lent;
   roots_lent = o.roots_lent;
   went = subst (λ (st : Store). WentOn w.store.now w.roots.now st v.roots.now) (sym o.store)
-      (record { sound = sound_in w.store.now; room = refl; cells = long; carried = carried_grown w.store.now w.store.now (grown_same w.store.now) });
+      (record {
+        sound = sound_in w.store.now;
+        room = refl;
+        cells = long;
+        carried = carried_grown w.store.now w.store.now (grown_same w.store.now);
+      });
 }
 
 -- the only root's size
@@ -246,9 +251,6 @@ way_ends : (ps : List ℕ) (es : List Eq) (t : Term) (w : List Term) (u v : Term
 way_ends ps es t [] u v p q = sym p ∙ q
 way_ends ps es t (x ∷ w) u v p q = way_ends ps es x w u v p.2 q.2
 
-pub inside_none : (st : Store) (q : Roots) → q.top ≡ 0 → Inside st q
-inside_none st q e = record { fits = omega arith; low = λ j l. absurd (omega arith) }
-
 -- the only root's term, and beside it the one that was read
 module _ (w : Walk) (one : w.roots.now.top ≡ 1) (t : Term) (v : Walk)
     (read : Stacked w.store.now w.roots.now w.roots.now.top t v.store.now v.roots.now) where
@@ -281,11 +283,13 @@ module _ (k : Book) (i : ℕ) (low : i < length (told k).rules) (ws : List ℕ) 
 
   pub left_row : ws ≡ row (rule_in k i).left → RowOf (told k).parts ws (rule_in k i).left
   left_row e =
-      record { written = sym e; fits = over_fits (told k).parts SmallLetter (rule_in k i).left (rule_sides k (sound_book_in k) i low).left }
+      let sides = rule_sides k (sound_book_in k) i low in
+      record { written = sym e; fits = over_fits (told k).parts SmallLetter (rule_in k i).left sides.left }
 
   pub right_row : ws ≡ row (rule_in k i).right → RowOf (told k).parts ws (rule_in k i).right
   right_row e =
-      record { written = sym e; fits = over_fits (told k).parts SmallLetter (rule_in k i).right (rule_sides k (sound_book_in k) i low).right }
+      let sides = rule_sides k (sound_book_in k) i low in
+      record { written = sym e; fits = over_fits (told k).parts SmallLetter (rule_in k i).right sides.right }
 
   pub left_short : ws ≡ row (rule_in k i).left → length ws ≤ length k.words.now
   left_short e = omega (arith, ap length e, row_length (rule_in k i).left, stands.left.long, stands.left.within)
