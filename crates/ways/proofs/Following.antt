@@ -1,6 +1,6 @@
 -- A way followed term by term.
-use Rattle.std.proofs.Common.{◌≡◌, ℕ, ◌+◌, ◌-◌, ◌*◌, get_or, ◌<◌, ◌≤◌, Bool, true, false, List, [], ◌∷◌, ◌++◌, length, drop, Some, None, Option, sym, refl, ap}
-use Rattle.std.proofs.Common.{◌∙◌, subst, subst₂, append_assoc, append-nil, arith}
+use Rattle.std.proofs.Common.{◌≡◌, ℕ, ◌+◌, ◌-◌, ◌*◌, get_or, ◌<◌, ◌≤◌, Bool, true, false, List, [], ◌∷◌, ◌++◌, length, drop, Some, None, Option}
+use Rattle.std.proofs.Common.{sym, refl, ap, ◌∙◌, subst, subst₂, append_assoc, append-nil, arith}
 use Rattle.rewriting.specs.Answers.{Tells}
 use Rattle.rewriting.specs.Terms.{Term, none1, and1, size, sizes, Fits, SmallLetter}
 use Rattle.rewriting.specs.Rules.{Eq}
@@ -10,7 +10,7 @@ use Rattle.books.specs.declared.row.Book.{Book}
 use Rattle.books.specs.declared.words.Letters.TheVariants.{Any}
 use Rattle.books.specs.Books.{told, sound_book_in, rule_in, RuleAt}
 use Rattle.books.specs.Layouts.{FewParts}
-use Rattle.books.specs.Reading.{TermAt, TermEnd}
+use Rattle.books.specs.Reading.{TermAt}
 use Rattle.books.specs.Rows.{row, rowTerms}
 use Rattle.books.proofs.Bookish.{rule_at, rule_sides}
 use Rattle.books.proofs.Glueing.{row_length}
@@ -19,15 +19,14 @@ use Rattle.books.proofs.Heads.{head_of}
 use Rattle.books.proofs.Unique.{rows_once}
 use Rattle.store.specs.declared.types.Store.{Store}
 use Rattle.store.specs.declared.types.Roots.{Roots}
-use Rattle.store.specs.declared.types.Place.{Place}
-use Rattle.store.specs.Stacks.{root_in, CutTo}
+use Rattle.store.specs.Stacks.{CutTo}
 use Rattle.store.specs.Making.{Stacked}
 use Rattle.store.specs.Transfers.{RowOf}
 use Rattle.std.specs.Bool.{then_some}
-use Rattle.store.specs.Stores.{term_in, held, terms_down, Inside}
+use Rattle.store.specs.Stores.{held, terms_down}
 use Rattle.store.proofs.Sounds.{sound_in}
 use Rattle.store.proofs.Placing.{carried_then, carried_grown, grown_same}
-use Rattle.ways.specs.Steps.{TwoTerms, StepTold}
+use Rattle.ways.specs.Steps.{StepTold}
 use Rattle.ways.specs.Showing.{RoomFor, WentOn, TermNext, NextTold, TermsNext, Followed, WayTold}
 use Rattle.ways.specs.Walks.{Kept, OnlyRoots, UnderWay}
 use Rattle.ways.specs.declared.walk.Walk.{Walk}
@@ -66,7 +65,12 @@ kept_only w v o long = record {
   store_lent = o.store_lent;
   roots_lent = o.roots_lent;
   went = subst (λ (st : Store). WentOn w.store.now w.roots.now st v.roots.now) (sym o.store)
-      (record { sound = sound_in w.store.now; room = refl; cells = long; carried = carried_grown w.store.now w.store.now (grown_same w.store.now) });
+      (record {
+        sound = sound_in w.store.now;
+        room = refl;
+        cells = long;
+        carried = carried_grown w.store.now w.store.now (grown_same w.store.now);
+      });
 }
 
 -- the only root's size
@@ -78,13 +82,6 @@ one_size st q e =
 
 no_size : (st : Store) (q : Roots) → q.top ≡ 0 → sizes (terms_down st q 0 q.top) ≡ 0
 no_size st q e = ap (λ (n : ℕ). sizes (terms_down st q 0 n)) e
-
--- there is room for a term of the book or of the ways, beside the only root's
-pub room_beside : (w : Walk) (n : ℕ) → UnderWay w → n ≤ length w.book.now.words.now + length w.ways.now → RoomFor w.store.now w.roots.now n
-room_beside w n u l = record {
-  slots = omega (arith, one_size w.store.now w.roots.now u.one, u.small, w.slots);
-  cells = omega (arith, u.one, w.cells);
-}
 
 pub room_alone : (w : Walk) (q : Roots) (n : ℕ) → CutTo w.roots.now 0 q → n ≤ length w.book.now.words.now + length w.ways.now →
     RoomFor w.store.now q n
@@ -111,9 +108,6 @@ term_unique k h a z t v rest fits at n =
     (simp append-nil (sym at.written ∙ n.written)) in
     let e = q.0 in
     (cc, q.1)
-
-pub no_term : (k : Book) (h : List ℕ) (a : ℕ) (t u : Term) → TermEnd Any (told k).parts h a None → NextTold k h a t u None
-no_term k h a t u none_there v rest n o = none_there v rest n.fits (sym n.written)
 
 -- what is told of a walk's book and ways is told of those that it began with
 module _ (w v : Walk) (kept : Kept w v) where
@@ -143,36 +137,12 @@ module _ (w : Walk) (u : UnderWay w) (a z : ℕ) (t : Term) (fits : Fits (told w
   second_is : held v.store.now v.roots.now 1 ≡ t
   second_is = ap (λ (n : ℕ). held v.store.now v.roots.now n) (sym u.one) ∙ read.term
 
-  pub two_terms : TwoTerms v.book.now v.store.now v.roots.now
-  two_terms = subst (λ (k : Book). TwoTerms k v.store.now v.roots.now) (sym kept.book) (record {
-    inside = read.inside;
-    two = omega (arith, read.top, u.one);
-    first = subst (Fits (told w.book.now).parts) (sym first_is) u.fits;
-    second = subst (Fits (told w.book.now).parts) (sym second_is) fits;
-    cells = omega (arith, ap size second_is, at.long, at.within, w.cells, read.long);
-  })
-
   module _ (x : Walk) (only : OnlyRoots v x) (y : Bool) (step : StepTold v.book.now v.store.now v.roots.now x.roots.now y) where
     pub kept_next : Kept w x
     kept_next = kept_then w v x kept (kept_only v x only step.long)
 
     held_next : held x.store.now x.roots.now 0 ≡ t
     held_next = ap (λ (st : Store). held st x.roots.now 0) only.store ∙ (step.term ∙ second_is)
-
-    pub under_next : UnderWay x
-    under_next = record {
-      inside = subst (λ (st : Store). Inside st x.roots.now) (sym only.store) step.inside;
-      one = step.top;
-      fits = subst₂ (λ (k : Book) (s : Term). Fits (told k).parts s) (sym kept_next.book) (sym held_next) fits;
-      small = omega (
-        arith,
-        ap size held_next,
-        at.long,
-        at.within,
-        ap length kept_next.ways,
-        ap (λ (k : Book). length k.words.now) kept_next.book,
-      );
-    }
 
     tells : Tells y (One (told w.book.now).eqs (held w.store.now w.roots.now 0) t)
     tells = subst (λ (k : Book). Tells y (One (told k).eqs (held w.store.now w.roots.now 0) t)) kept.book
@@ -232,44 +202,10 @@ module _ (k : Book) (h : List ℕ) (a n : ℕ) (t : Term) (b m : ℕ) (u : Term)
       go [] y p = omega (arith, y.many)
       go (c ∷ vs) y p = e c (rowTerms vs ++ rest) (first_next c vs rest y) p.1
 
-  pub follows_end : m ≡ 0 → Followed k h a n t u (Some b)
-  follows_end z w rest x = go (f w rest x).vs (f w rest x).next (f w rest x).back
-    where
-      go : (vs : List Term) → TermsNext k h b m vs rest →
-          ((v : Term) → Way (told k).parts (told k).eqs u vs v → Way (told k).parts (told k).eqs t w v) →
-          Way (told k).parts (told k).eqs t w u × (drop b h ≡ rest)
-      go [] y back = (back u refl, y.written)
-      go (v ∷ vs) y back = absurd (omega (arith, y.many))
-
 -- a way has one end
 way_ends : (ps : List ℕ) (es : List Eq) (t : Term) (w : List Term) (u v : Term) → Way ps es t w u → Way ps es t w v → u ≡ v
 way_ends ps es t [] u v p q = sym p ∙ q
 way_ends ps es t (x ∷ w) u v p q = way_ends ps es x w u v p.2 q.2
-
-pub inside_none : (st : Store) (q : Roots) → q.top ≡ 0 → Inside st q
-inside_none st q e = record { fits = omega arith; low = λ j l. absurd (omega arith) }
-
--- the only root's term, and beside it the one that was read
-module _ (w : Walk) (one : w.roots.now.top ≡ 1) (t : Term) (v : Walk)
-    (read : Stacked w.store.now w.roots.now w.roots.now.top t v.store.now v.roots.now) where
-  pub cells_two : 4 ≤ length v.roots.now.cells.now
-  cells_two = omega (arith, read.inside.fits, read.top)
-
-  pub low_two : (root_in v.roots.now 0 < v.store.now.count) × (root_in v.roots.now 1 < v.store.now.count)
-  low_two = (read.inside.low 0 (omega (arith, read.top)), read.inside.low 1 (omega (arith, read.top)))
-
-  pub held_told : (x y : Place) → x.0 ≡ root_in v.roots.now 0 → y.0 ≡ root_in v.roots.now 1 → (z : Bool) →
-      (z ≡ true → term_in v.store.now x.0 ≡ term_in v.store.now y.0) →
-      (z ≡ false → term_in v.store.now x.0 ≡ term_in v.store.now y.0 → ⊥) → Tells z (held w.store.now w.roots.now 0 ≡ t)
-  held_told x y ex ey z yes1 no1 =
-      let first_is : term_in v.store.now x.0 ≡ held w.store.now w.roots.now 0 =
-      ap (λ (j : ℕ). term_in v.store.now j) ex ∙ read.terms 0 (omega arith) in
-      let second_is : term_in v.store.now y.0 ≡ t =
-      ap (λ (j : ℕ). term_in v.store.now j) ey ∙ (ap (λ (j : ℕ). held v.store.now v.roots.now j) (sym one) ∙ read.term) in
-      record {
-        holds = λ e. sym first_is ∙ (yes1 e ∙ second_is);
-        fails = λ e d. no1 e (first_is ∙ (d ∙ sym second_is));
-      }
 
 -- the sides of a rule
 module _ (k : Book) (i : ℕ) (low : i < length (told k).rules) (ws : List ℕ) where
@@ -281,11 +217,13 @@ module _ (k : Book) (i : ℕ) (low : i < length (told k).rules) (ws : List ℕ) 
 
   pub left_row : ws ≡ row (rule_in k i).left → RowOf (told k).parts ws (rule_in k i).left
   left_row e =
-      record { written = sym e; fits = over_fits (told k).parts SmallLetter (rule_in k i).left (rule_sides k (sound_book_in k) i low).left }
+      let sides = rule_sides k (sound_book_in k) i low in
+      record { written = sym e; fits = over_fits (told k).parts SmallLetter (rule_in k i).left sides.left }
 
   pub right_row : ws ≡ row (rule_in k i).right → RowOf (told k).parts ws (rule_in k i).right
   right_row e =
-      record { written = sym e; fits = over_fits (told k).parts SmallLetter (rule_in k i).right (rule_sides k (sound_book_in k) i low).right }
+      let sides = rule_sides k (sound_book_in k) i low in
+      record { written = sym e; fits = over_fits (told k).parts SmallLetter (rule_in k i).right sides.right }
 
   pub left_short : ws ≡ row (rule_in k i).left → length ws ≤ length k.words.now
   left_short e = omega (arith, ap length e, row_length (rule_in k i).left, stands.left.long, stands.left.within)

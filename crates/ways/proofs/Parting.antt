@@ -1,6 +1,6 @@
 -- The parts in which two terms of the store differ.
-use Rattle.std.proofs.Common.{◌≡◌, ℕ, zero, suc, None, Some, Option, Bool, true, false, not, ◌+◌, ◌<◌, ◌≤◌, sym, refl, ap, ◌∙◌, subst, ap₂, subst₂, inl, inr, ⊎_elim}
-use Rattle.std.proofs.Common.{eq-or-lt_of_le, arith}
+use Rattle.std.proofs.Common.{◌≡◌, ℕ, zero, suc, None, Some, Option, Bool, true, false, not, ◌+◌, ◌<◌, ◌≤◌, sym, refl, ap}
+use Rattle.std.proofs.Common.{◌∙◌, subst, ap₂, subst₂, inl, inr, ⊎_elim, eq-or-lt_of_le, arith}
 use borrow.Author.Tests.{clash}
 use Rattle.std.specs.Bool.{then_some}
 use Rattle.std.specs.Option.{is_some}

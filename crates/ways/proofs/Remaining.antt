@@ -1,7 +1,6 @@
 -- The ways of all rules, one after the other.
-use Rattle.std.proofs.Common.{◌≡◌, ℕ, ◌+◌, ◌<◌, ◌≤◌, List, [], ◌∷◌, ◌++◌, length, get_or, drop, Some, None, sym, refl, ap, ◌∙◌}
+use Rattle.std.proofs.Common.{◌≡◌, ℕ, ◌+◌, ◌<◌, List, [], ◌∷◌, ◌++◌, length, get_or, drop, Some, None, sym, refl, ap, ◌∙◌}
 use Rattle.std.proofs.Common.{subst, add-one, arith, length-drop, drop-cons}
-use lib.Seq.{drop-length}
 use Rattle.rewriting.specs.Terms.{Term}
 use Rattle.rewriting.specs.Rules.{Eq}
 use Rattle.rewriting.specs.Ways.{Way, Ways}
@@ -123,17 +122,3 @@ module _ (k : Book) (h : List ℕ) (i a : ℕ) (l : LeftWays k h i a) (low : i <
       let same : xs ≡ l.ws = one_ways (told k).parts h xs l.ws f.0 l.fit e l.is in
       let w = split_ways (l.to (subst (Ways (told k).parts (told k).eqs (told k).rules) same g)) in
       t n.way (rowWays n.others) n.next w.0
-
--- no rule is left
-pub left_end : (k : Book) (h : List ℕ) (i a : ℕ) → LeftWays k h i a → length (told k).rules ≤ i → Shown k h
-left_end k h i a l high = (l.ws, l.is, l.back (go l.vs refl))
-  where
-    none_there : drop i (told k).rules ≡ []
-    none_there =
-        let e : i ≡ length (told k).rules = omega (arith, l.many) in
-        ap (λ (j : ℕ). drop j (told k).rules) e ∙ drop-length (told k).rules
-
-    go : (vs : List (List Term)) → l.vs ≡ vs → Ways (told k).parts (told k).eqs (drop i (told k).rules) l.vs
-    go [] e = subst (Ways (told k).parts (told k).eqs (drop i (told k).rules)) (sym e)
-        (subst (λ (rs : List Eq). Ways (told k).parts (told k).eqs rs []) (sym none_there) tt)
-    go (v ∷ vs) e = absurd (omega (arith, l.many, ap length e))

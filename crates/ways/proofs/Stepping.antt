@@ -297,7 +297,8 @@ module _ (w v : Walk) (only : OnlyRoots w v) where
   pub equated_on : (p q : Place) (x : Bool) →
       Tells x (Equated (told v.book.now).eqs (term_in v.store.now p.0) (term_in v.store.now q.0)) →
       Tells x (Equated (told w.book.now).eqs (term_in w.store.now p.0) (term_in w.store.now q.0))
-  equated_on p q x = subst₂ (λ (k : Book) (st : Store). Tells x (Equated (told k).eqs (term_in st p.0) (term_in st q.0))) only.book only.store
+  equated_on p q x =
+      subst₂ (λ (k : Book) (st : Store). Tells x (Equated (told k).eqs (term_in st p.0) (term_in st q.0))) only.book only.store
 
   pub expanded_on : (q r : Roots) → Expanded v.store.now q r → Expanded w.store.now q r
   expanded_on q r = subst (λ (st : Store). Expanded st q r) only.store

@@ -60,7 +60,8 @@ NoneBelow k n t u = (i : ℕ) → i < n → SidesAre (equation_in k i) t u ⊎ S
 
 pub by_equation : (k : Book) (st : Store) (p q : Place) → Comparable k st p q → (i : ℕ) → i < length (told k).eqs → (t u : Term) →
     SidesAre (equation_in k i) t u ⊎ SidesAre (equation_in k i) u t → Equated (told k).eqs t u
-by_equation k st p q can i low t u s = record { index = i; equation = equation_in k i; has = is_equation k (sound_book_in k) i low; sides = s }
+by_equation k st p q can i low t u s =
+    record { index = i; equation = equation_in k i; has = is_equation k (sound_book_in k) i low; sides = s }
 
 pub none_equated : (k : Book) (n : ℕ) (t u : Term) → length (told k).eqs ≡ n → NoneBelow k n t u → Equated (told k).eqs t u → ⊥
 none_equated k n t u z none h =
@@ -77,7 +78,8 @@ number n i d l = omega (arith, get_or-range_with_len 0 n i d l)
 
 pub any_equated : (k : Book) (st : Store) (p q : Place) → Comparable k st p q → (n : ℕ) → n ≡ length (told k).eqs → (t u : Term) →
     (r : Bool) → MatchBool r ((i : ℕ) × (i < length (range_with_len 0 n)) × HoldsAt (Leads k t u) (range_with_len 0 n) i)
-    ((i d : ℕ) → 0 ≤ i → i < length (range_with_len 0 n) → Leads k t u (get_or (range_with_len 0 n) i d) → ⊥) → Tells r (Equated (told k).eqs t u)
+    ((i d : ℕ) → 0 ≤ i → i < length (range_with_len 0 n) → Leads k t u (get_or (range_with_len 0 n) i d) → ⊥) →
+    Tells r (Equated (told k).eqs t u)
 any_equated k st p q can n e t u true (i, l, h) =
     let low : i < n = omega (arith, length-range_with_len 0 n) in record {
       holds = λ z. by_equation k st p q can i (omega arith) t u (subst (Leads k t u) (number n i 0 low) (h 0));

@@ -32,7 +32,8 @@ returns-then-equated-clause-walked c =
         holds = λ z. walk_found w.book.now w.store.now (w.roots.now.top - 1) w.roots.now
             c.loop-self.self.roots.now c.loop-self.invariant.1 c.loop-self-test.true
             (subst (λ (j : ℕ). Equated (told w.book.now).eqs (term_in w.store.now j) (term_in w.store.now j)) c.place-p.ensures
-            ((equated_on w c.loop-self.self c.loop-self.invariant.0 c.place-p.result c.place-p.result true c.if-equated.ensures).holds refl));
+            ((equated_on w c.loop-self.self c.loop-self.invariant.0 c.place-p.result c.place-p.result true
+            c.if-equated.ensures).holds refl));
         fails = λ z. absurd (clash (sym z));
       };
       top = cut.top;
@@ -54,7 +55,8 @@ loop-self-smaller c =
     let w = c.args.self.now in
     walk_less w.book.now w.store.now (w.roots.now.top - 1) w.roots.now c.loop-self.self.roots.now
     c.loop-self.invariant.1 c.loop-self-test.true c.expand.new.self.roots.now
-    (expanded_on w c.loop-self.self c.loop-self.invariant.0 c.loop-self.self.roots.now c.expand.new.self.roots.now c.expand.ensures.expanded)
+    (expanded_on w c.loop-self.self c.loop-self.invariant.0 c.loop-self.self.roots.now c.expand.new.self.roots.now
+    c.expand.ensures.expanded)
 
 pub loop-self-preserved : goal.loop-self-preserved
 loop-self-preserved c =
@@ -67,7 +69,8 @@ loop-self-preserved c =
           (expanded_on w c.loop-self.self c.loop-self.invariant.0 c.loop-self.self.roots.now c.expand.new.self.roots.now
           c.expand.ensures.expanded)
           (subst (λ (j : ℕ). Equated (told w.book.now).eqs (term_in w.store.now j) (term_in w.store.now j) → ⊥) c.place-p.ensures
-          ((equated_on w c.loop-self.self c.loop-self.invariant.0 c.place-p.result c.place-p.result false c.if-equated.ensures).fails refl)),
+          ((equated_on w c.loop-self.self c.loop-self.invariant.0 c.place-p.result c.place-p.result false
+          c.if-equated.ensures).fails refl)),
     )
 
 pub returns-clause-walked : goal.returns-clause-walked

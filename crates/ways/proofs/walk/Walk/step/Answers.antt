@@ -24,6 +24,7 @@ leads_to_other-found-requires c = (
 )
 
 pub returns-clause-told : goal.returns-clause-told
-returns-clause-told c = step_other c.args.self.now.book.now c.args.self.now.store.now c.args.self.now.roots.now c.requires c.place-p.result c.place-q.result
+returns-clause-told c =
+    step_other c.args.self.now.book.now c.args.self.now.store.now c.args.self.now.roots.now c.requires c.place-p.result c.place-q.result
     c.place-p.ensures c.place-q.ensures c.stack.new.self c.leads_to_other-found.result c.leads_to_other-found.ensures
     c.stack.ensures
