@@ -3,12 +3,12 @@
 
 #[cfg(test)]
 mod tests {
-    use books::{Book, read_book};
-    use engine::work::{Work, share_out};
+    use books::Book;
+    use engine::types::NoRoom;
+    use engine::work::share_out;
     use notation::parse;
     use order::first_up;
     use overlaps::ends::one_end;
-    use overlaps::types::Ends;
     use std::alloc::Global;
     use std::test::Fail;
 
@@ -84,25 +84,12 @@ rules
 ";
 
     // What is found of a book; nothing if the words are no book whose rules go down.
-    fn found(words: &[u32], work: &mut [u32]) -> Option<Ends> {
-        let Some(layout) = read_book(words) else {
-            return None;
-        };
-        let book = Book { words, layout };
-        if let Some(_) = first_up(&book) {
+    fn found(words: &[u32], work: &mut [u32]) -> Option<Result<bool, NoRoom>> {
+        let book = Book::read(words)?;
+        if first_up(&book).is_some() {
             return None;
         }
-        let Some(
-            Work {
-                mut store,
-                mut roots,
-                mut frames,
-            },
-        ) = share_out(work)
-        else {
-            return None;
-        };
-        Some(one_end(&book, &mut store, &mut roots, &mut frames))
+        Some(one_end(&book, &mut share_out(work)?))
     }
 
     // Whether a book has one end, if that is found with 16,384 work words, and 64 for each word of the book and so many more.
@@ -113,12 +100,8 @@ rules
         };
         let words = book.words.len().saturating_add(more).saturating_mul(64);
         let mut work = vec![in heap; 0; words.saturating_add(16384)]?;
-        match found(book.words.as_slice(), work.as_mut_slice()) {
-            Some(Ends::One) => Ok(Some(true)),
-            Some(Ends::Apart) => Ok(Some(false)),
-            Some(Ends::Room) => Ok(None),
-            None => Err(Fail::new("no book whose rules go down")),
-        }
+        let found = found(book.words.as_slice(), work.as_mut_slice());
+        Ok(found.ok_or("no book whose rules go down")?.ok())
     }
 
     #[test]
