@@ -24,8 +24,7 @@ fn make_letters(store: &mut Store, roots: &mut Roots) -> Result<(), Full>
 }
 
 // A store that has these letters.
-pub fn start<'a>(words: &'a mut [u32], cells: &mut [u32]) -> Option<Store<'a>>
-{
+pub fn start<'a>(words: &'a mut [u32], cells: &mut [u32]) -> Option<Store<'a>> {
     let mut store = Store::open(words)?;
     let mut roots = Roots::new(cells);
     make_letters(&mut store, &mut roots).ok()?;
@@ -33,8 +32,7 @@ pub fn start<'a>(words: &'a mut [u32], cells: &mut [u32]) -> Option<Store<'a>>
 }
 
 // The sign f with these parts.
-pub fn make(store: &mut Store, f: u32, parts: &[Place]) -> Option<Place>
-{
+pub fn make(store: &mut Store, f: u32, parts: &[Place]) -> Option<Place> {
     let n = parts.len();
     if n > 4 || store.count >= store.limit {
         return None;
@@ -50,8 +48,7 @@ pub fn make(store: &mut Store, f: u32, parts: &[Place]) -> Option<Place>
 }
 
 // The place of a letter.
-pub fn letter(store: &Store, x: u32) -> Option<Place>
-{
+pub fn letter(store: &Store, x: u32) -> Option<Place> {
     if x >= 32 {
         return None;
     }
@@ -59,8 +56,7 @@ pub fn letter(store: &Store, x: u32) -> Option<Place>
 }
 
 // The place of a letter, or of a sign whose parts are the last of these places.
-fn place_of(store: &mut Store, symbol: Symbol, built: &[Place]) -> Option<Place>
-{
+fn place_of(store: &mut Store, symbol: Symbol, built: &[Place]) -> Option<Place> {
     match symbol {
         Symbol::L(x) => letter(store, x),
         Symbol::S(_, n) if n > built.len() => None,
@@ -69,8 +65,7 @@ fn place_of(store: &mut Store, symbol: Symbol, built: &[Place]) -> Option<Place>
 }
 
 // The term of a row of symbols.
-pub fn read(store: &mut Store, row: &[Symbol]) -> Option<Place>
-{
+pub fn read(store: &mut Store, row: &[Symbol]) -> Option<Place> {
     let mut built = ArrayVec::<Place, 16>::new();
     for &symbol in row {
         let p = place_of(store, symbol, built.as_slice())?;
@@ -83,8 +78,7 @@ pub fn read(store: &mut Store, row: &[Symbol]) -> Option<Place>
 }
 
 // What unification says of the terms at two places.
-pub fn solve(store: &mut Store, p: Place, q: Place) -> Option<Option<Bindings>>
-{
+pub fn solve(store: &mut Store, p: Place, q: Place) -> Option<Option<Bindings>> {
     let letters = find_letters(store)?;
     let n = store.count;
     if n > 96 || store.limit - n < 96 || p.0 >= n || q.0 >= n {
@@ -120,8 +114,7 @@ pub fn becomes(left: &[Symbol], right: &[Symbol], x: u32, row: &[Symbol]) -> Opt
 }
 
 // The terms f(x1, f(x2, .. x0)) and f(g(x0, x0), f(g(x1, x1), .. x0)), with n letters besides x0.
-pub fn doubling(store: &mut Store, n: u32) -> Option<(Place, Place)>
-{
+pub fn doubling(store: &mut Store, n: u32) -> Option<(Place, Place)> {
     let mut p = letter(store, 0)?;
     let mut q = p;
     for i in (0..n).rev() {
