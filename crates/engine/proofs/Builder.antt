@@ -23,7 +23,7 @@ use Rattle.store.proofs.Cases.{le_or_lt}
 use Rattle.store.proofs.Placing.{grown_same, grown_then}
 use Rattle.store.proofs.Forests.{after, after_rows, after_over, after_sizes, none_left}
 use Rattle.store.proofs.Reading.{symbols}
-use Rattle.engine.specs.declared.types.Built.{Built}
+use Rattle.engine.specs.declared.types.Places.{Places}
 use Rattle.engine.specs.declared.types.Bindings.{Bindings}
 use Rattle.engine.specs.Matching.{bound, put_in, AllInside, Bound, stacked, PlacesInside}
 use Rattle.engine.specs.Building.{PutOn, Taken, Fillable, Buildable, SignsAdded, SymbolBuilt, RowInstanceBuilt}
@@ -34,8 +34,8 @@ no_letter : {f x : ℕ} {ts : Terms} → sign f ts ≡ letter x → ⊥
 no_letter e = let z : ◌≡◌ {A = ℕ} 0 1 = cc in omega arith
 
 -- the symbol's term is built
-module _ (ps : List ℕ) (num : ℕ) (b : Bindings) (st : Store) (q : Built) where
-  pub letter_built : Buildable ps (Letter num) b st q → (p : Place) (r : Built) → bound b num ≡ Some p → PutOn q p r →
+module _ (ps : List ℕ) (num : ℕ) (b : Bindings) (st : Store) (q : Places 32) where
+  pub letter_built : Buildable ps (Letter num) b st q → (p : Place) (r : Places 32) → bound b num ≡ Some p → PutOn q p r →
       SymbolBuilt ps (Letter num) b st q st r
   letter_built can p r e o =
       let l : q.len < length q.places = omega (arith, o.all, can.symbol.0) in record {
@@ -48,7 +48,7 @@ module _ (ps : List ℕ) (num : ℕ) (b : Bindings) (st : Store) (q : Built) whe
             ∙ ap (λ (t : Term). and1 t (stacked st q.places q.len)) (sym (put_in_bound st b num p e));
       }
 
-  pub sign_built : Buildable ps (Sign num) b st q → (xs : List Place) (r : Built) (su : Store) (p : Place) (u : Built) →
+  pub sign_built : Buildable ps (Sign num) b st q → (xs : List Place) (r : Places 32) (su : Store) (p : Place) (u : Places 32) →
       Taken q (get_or ps num 0) xs r → SignShared st num xs (get_or ps num 0) su p →
       ((i : ℕ) → st.count ≤ i → i < su.count → i ≡ p.0) → PutOn r p u → SymbolBuilt ps (Sign num) b st q su u
   sign_built can xs r su p u t s new o =
@@ -98,12 +98,12 @@ word_at ps ws t k i w =
     ∙ get_or-drop (2 * k) ws i 0
 
 -- the symbol can be built, and then the terms from there on are
-pub record Turn (a0 : Store) (ps : List ℕ) (y : Symbol) (b : Bindings) (st : Store) (q : Built) (fs : Terms) : Type 0 where
+pub record Turn (a0 : Store) (ps : List ℕ) (y : Symbol) (b : Bindings) (st : Store) (q : Places 32) (fs : Terms) : Type 0 where
   pub can : Buildable ps y b st q
-  pub next : (su : Store) (r : Built) → SymbolBuilt ps y b st q su r → stacked su r.places r.len ≡ puts (put_in a0 b) fs
+  pub next : (su : Store) (r : Places 32) → SymbolBuilt ps y b st q su r → stacked su r.places r.len ≡ puts (put_in a0 b) fs
 
 module _ (ps : List ℕ) (few : FewParts ps) (a0 : Store) (b : Bindings) (inside0 : AllInside a0 b) (st : Store)
-    (q : Built) (grown : Grown a0 st) (inside : PlacesInside st q.places q.len) (short : q.len < 32) where
+    (q : Places 32) (grown : Grown a0 st) (inside : PlacesInside st q.places q.len) (short : q.len < 32) where
   still_inside : AllInside st b
   still_inside x p e = let l = inside0 x p e in let m = grown.longer in omega arith
 
@@ -153,14 +153,14 @@ module _ (ps : List ℕ) (few : FewParts ps) (a0 : Store) (b : Bindings) (inside
       subst (λ (v : ℕ). Turn a0 ps (Sign v) b st q (and1 (sign f vs) us)) e (sign_turn f vs us o.0.0 i)
 
 -- from symbol k on the instance of t is built
-pub record SoBuilt (t : Term) (a : Store) (b : Bindings) (k : ℕ) (st : Store) (q : Built) : Type 0 where
+pub record SoBuilt (t : Term) (a : Store) (b : Bindings) (k : ℕ) (st : Store) (q : Places 32) : Type 0 where
   pub grown : Grown a st
   pub few : st.count + k ≤ a.count + size t
   pub signs : SignsAdded a st
   pub inside : PlacesInside st q.places q.len
   pub terms : stacked st q.places q.len ≡ puts (put_in a b) (after k (and1 t none1))
 
-pub none_built : (t : Term) (a : Store) (b : Bindings) (k : ℕ) (q : Built) → k ≡ size t → q.len ≡ 0 → SoBuilt t a b k a q
+pub none_built : (t : Term) (a : Store) (b : Bindings) (k : ℕ) (q : Places 32) → k ≡ size t → q.len ≡ 0 → SoBuilt t a b k a q
 none_built t a b k q e z = record {
   grown = grown_same a;
   few = omega arith;
@@ -175,7 +175,7 @@ module _ (ps ws : List ℕ) (few : FewParts ps) (t : Term) (a : Store) (b : Bind
   pub symbols_built : length ws ≡ 2 * size t
   symbols_built = symbols f.row
 
-  turn_at : (k : ℕ) (y : Symbol) (st : Store) (q : Built) → k < size t → SymbolAt ws (2 * k) (Some y) → SoBuilt t a b (suc k) st q →
+  turn_at : (k : ℕ) (y : Symbol) (st : Store) (q : Places 32) → k < size t → SymbolAt ws (2 * k) (Some y) → SoBuilt t a b (suc k) st q →
       Turn a ps y b st q (after k (and1 t none1))
   turn_at k y st q l at s =
       let fs = after k (and1 t none1) in
@@ -189,15 +189,15 @@ module _ (ps ws : List ℕ) (few : FewParts ps) (t : Term) (a : Store) (b : Bind
       (word_at ps ws t k 0 f.row ∙ ap (λ (n : ℕ). get_or ws n 0) z ∙ at.1) (word_at ps ws t k 1 f.row ∙ at.2) s.terms
 
   -- symbol n - 1 is next
-  pub turn : (n : ℕ) (st : Store) (q : Built) → 0 < n → n ≤ size t → SoBuilt t a b n st q → (x : Option Symbol) (y : Symbol) →
+  pub turn : (n : ℕ) (st : Store) (q : Places 32) → 0 < n → n ≤ size t → SoBuilt t a b n st q → (x : Option Symbol) (y : Symbol) →
       x ≡ Some y → SymbolAt ws (2 * (n - 1)) x → Turn a ps y b st q (after (n - 1) (and1 t none1))
   turn n st q p l s x y same at =
       let e : n ≡ suc (n - 1) = omega arith in
       turn_at (n - 1) y st q (omega arith) (subst (SymbolAt ws (2 * (n - 1))) same at)
       (subst (λ (k : ℕ). SoBuilt t a b k st q) e s)
 
-  pub built_more : (n : ℕ) (st : Store) (q : Built) → SoBuilt t a b n st q → 0 < n → {y : Symbol} →
-      Turn a ps y b st q (after (n - 1) (and1 t none1)) → (su : Store) (r : Built) → SymbolBuilt ps y b st q su r →
+  pub built_more : (n : ℕ) (st : Store) (q : Places 32) → SoBuilt t a b n st q → 0 < n → {y : Symbol} →
+      Turn a ps y b st q (after (n - 1) (and1 t none1)) → (su : Store) (r : Places 32) → SymbolBuilt ps y b st q su r →
       SoBuilt t a b (n - 1) su r
   built_more n st q s p turned su r d = record {
     grown = grown_then a st su s.grown d.grown;
@@ -207,7 +207,7 @@ module _ (ps ws : List ℕ) (few : FewParts ps) (t : Term) (a : Store) (b : Bind
     terms = turned.next su r d;
   }
 
-  pub built_all : (st : Store) (q : Built) → SoBuilt t a b 0 st q → RowInstanceBuilt a b t st (get_or q.places 0 zero_place)
+  pub built_all : (st : Store) (q : Places 32) → SoBuilt t a b 0 st q → RowInstanceBuilt a b t st (get_or q.places 0 zero_place)
   built_all st q s =
       let c : q.len ≡ 1 = omega (arith, stacked_count st q.places q.len, ap count s.terms) in
       let e : stacked st q.places 1 ≡ and1 (put (put_in a b) t) none1 = ap (stacked st q.places) (sym c) ∙ s.terms in

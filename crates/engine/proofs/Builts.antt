@@ -1,4 +1,4 @@
--- Places of built terms: one more, the last ones taken, and a store that grows under them.
+-- Places 32 of built terms: one more, the last ones taken, and a store that grows under them.
 use Rattle.std.proofs.Common.{◌≡◌, ℕ, zero, suc, ◌+◌, ◌-◌, ◌<◌, ◌≤◌, List, length, get_or, Some, sym, refl, ap, ◌∙◌, subst, ap₂, arith}
 use Rattle.rewriting.specs.Terms.{sign, Terms, none1, and1, glue, count}
 use Rattle.store.specs.declared.types.Store.{Store}
@@ -6,7 +6,7 @@ use Rattle.store.specs.declared.types.Place.{Place}
 use Rattle.store.specs.Slots.{parts_by}
 use Rattle.store.specs.Stores.{Grown, term_in}
 use Rattle.store.specs.Making.{terms_at, SignShared}
-use Rattle.engine.specs.declared.types.Built.{Built}
+use Rattle.engine.specs.declared.types.Places.{Places}
 use Rattle.engine.specs.declared.types.Bindings.{Bindings}
 use Rattle.engine.specs.Matching.{bound, term_or, put_in, AllInside, stacked, PlacesInside}
 use Rattle.engine.specs.Building.{PutOn, Taken}
@@ -26,12 +26,12 @@ pub inside_grown : (st su : Store) (ps : List Place) (n : ℕ) → Grown st su �
 inside_grown st su ps n g h d l = let k = h d l in let m = g.longer in omega arith
 
 -- one more
-pub on_top : (st : Store) (q : Built) (p : Place) (r : Built) → PutOn q p r → q.len < length q.places →
+pub on_top : (st : Store) (q : Places 32) (p : Place) (r : Places 32) → PutOn q p r → q.len < length q.places →
     stacked st r.places r.len ≡ and1 (term_in st p.0) (stacked st q.places q.len)
 on_top st q p r o l =
     ap₂ (λ (ps : List Place) (n : ℕ). stacked st ps n) o.places o.len ∙ stacked_more st q.places q.len p l
 
-pub on_inside : (st : Store) (q : Built) (p : Place) (r : Built) → PutOn q p r → q.len < length q.places →
+pub on_inside : (st : Store) (q : Places 32) (p : Place) (r : Places 32) → PutOn q p r → q.len < length q.places →
     PlacesInside st q.places q.len → p.0 < st.count → PlacesInside st r.places r.len
 on_inside st q p r o l h i d m =
     subst (λ (ps : List Place). (get_or ps d zero_place).0 < st.count) (sym o.places)
@@ -57,7 +57,7 @@ parts_from st ps xs (suc m) (suc n) j (and1 v vs) us c l h e =
     let w : suc m - suc n ≡ m - n = omega arith in
     (ap₂ and1 (ap (λ (p : Place). term_in st p.0) first ∙ top) i.0, ap (stacked st ps) w ∙ i.1)
 
-pub parts_taken : (st : Store) (q : Built) (n : ℕ) (xs : List Place) (r : Built) (vs us : Terms) → Taken q n xs r → count vs ≡ n →
+pub parts_taken : (st : Store) (q : Places 32) (n : ℕ) (xs : List Place) (r : Places 32) (vs us : Terms) → Taken q n xs r → count vs ≡ n →
     stacked st q.places q.len ≡ glue vs us → (terms_at st xs n ≡ vs) × (stacked st r.places r.len ≡ us)
 parts_taken st q n xs r vs us t c e =
     let i = parts_from st q.places xs q.len n 0 vs us c (omega (arith, t.len))
@@ -66,18 +66,18 @@ parts_taken st q n xs r vs us t c e =
     let l : r.len ≡ q.len - n = omega (arith, t.len) in
     (i.0, ap₂ (λ (ps : List Place) (m : ℕ). stacked st ps m) t.places l ∙ i.1)
 
-pub taken_inside : (st : Store) (q : Built) (n : ℕ) (xs : List Place) (r : Built) → Taken q n xs r → PlacesInside st q.places q.len →
+pub taken_inside : (st : Store) (q : Places 32) (n : ℕ) (xs : List Place) (r : Places 32) → Taken q n xs r → PlacesInside st q.places q.len →
     PlacesInside st r.places r.len
 taken_inside st q n xs r t h d l =
     subst (λ (ps : List Place). (get_or ps d zero_place).0 < st.count) (sym t.places) (h d (omega (arith, t.len)))
 
-pub parts_inside : (st : Store) (q : Built) (n : ℕ) (xs : List Place) (r : Built) → Taken q n xs r → PlacesInside st q.places q.len →
+pub parts_inside : (st : Store) (q : Places 32) (n : ℕ) (xs : List Place) (r : Places 32) → Taken q n xs r → PlacesInside st q.places q.len →
     (k : ℕ) → k < n → (get_or xs k zero_place).0 < st.count
 parts_inside st q n xs r t h k l =
     subst (λ (p : Place). p.0 < st.count) (sym (t.parts k l)) (h (q.len - 1 - k) (omega (arith, t.len)))
 
 -- a sign in the place of its parts
-pub sign_on_top : (st : Store) (q : Built) (f n : ℕ) (xs : List Place) (r : Built) (su : Store) (p : Place) (u : Built) (vs us : Terms) →
+pub sign_on_top : (st : Store) (q : Places 32) (f n : ℕ) (xs : List Place) (r : Places 32) (su : Store) (p : Place) (u : Places 32) (vs us : Terms) →
     Taken q n xs r → SignShared st f xs n su p → PutOn r p u → r.len < length r.places → PlacesInside st q.places q.len →
     count vs ≡ n → stacked st q.places q.len ≡ glue vs us → stacked su u.places u.len ≡ and1 (sign f vs) us
 sign_on_top st q f n xs r su p u vs us t s o l h c e =

@@ -18,12 +18,13 @@ use Rattle.books.proofs.Forests.{opened, behind_sizes, behind_rows, behind_over}
 use Rattle.store.specs.declared.types.Store.{Store}
 use Rattle.store.specs.declared.types.Place.{Place}
 use Rattle.store.specs.Stores.{term_in}
-use Rattle.engine.specs.declared.types.Pending.{Pending}
+use Rattle.engine.specs.declared.types.Places.{Places}
 use Rattle.engine.specs.declared.types.Bindings.{Bindings}
 use Rattle.engine.specs.Matching.{bound, Agrees, term_or, put_in, AllInside, Bound, BoundNow, nothing}
 use Rattle.engine.specs.Matching.{Instance, Extended, MatchedOn, Pattern}
 use Rattle.engine.specs.Matching.{stacked, PlacesInside, Single, Popped, Pushed, PartsPending}
 use Rattle.engine.specs.Matching.{MatchingWith, Matching, MatchesAll, Turned}
+use Rattle.engine.specs.Building.{PutOn}
 use Rattle.engine.proofs.Pendings.{zero_place}
 
 -- letters in terms behind terms
@@ -85,7 +86,7 @@ abbrev first_symbol : Term → Symbol
 first_symbol (letter x) = Letter x
 first_symbol (sign f us) = Sign f
 
-module _ (ps ws : List ℕ) (b0 : Bindings) (l t : Term) (st : Store) (a : ℕ) (q : Pending) (b : Bindings) where
+module _ (ps ws : List ℕ) (b0 : Bindings) (l t : Term) (st : Store) (a : ℕ) (q : Places 36) (b : Bindings) where
   -- the words of the first pattern, and those behind them
   words_first : (u : Term) (us : Terms) → MatchingWith ps ws b0 l t st a q b (and1 u us) →
       drop a ws ≡ tag (first_symbol u) ∷ number (first_symbol u) ∷ rows (opened u us)
@@ -112,7 +113,7 @@ module _ (ps ws : List ℕ) (b0 : Bindings) (l t : Term) (st : Store) (a : ℕ) 
   over_next : (u : Term) (us : Terms) → MatchingWith ps ws b0 l t st a q b (and1 u us) → AllOver SmallLetter ps (opened u us)
   over_next u us m = behind_over SmallLetter ps (and1 u us) m.over
 
-  module _ (p : Place) (r : Pending) (pop : Popped q p r)
+  module _ (p : Place) (r : Places 36) (pop : Popped q p r)
       (one_place : (i j : ℕ) → i < st.count → j < st.count → term_in st i ≡ term_in st j → i ≡ j) where
     -- the next pending term, and the others
     pending_first : stacked st q.places q.len ≡ and1 (term_in st p.0) (stacked st r.places r.len)
@@ -202,7 +203,7 @@ module _ (ps ws : List ℕ) (b0 : Bindings) (l t : Term) (st : Store) (a : ℕ) 
         let d : some (count vs) ≡ some (count ts) = sym m.over.0.0 ∙ h.0 in
         cc
 
-    parts_next : (f : ℕ) (vs us ts : Terms) (r2 : Pending) → MatchingWith ps ws b0 l t st a q b (and1 (sign f vs) us) →
+    parts_next : (f : ℕ) (vs us ts : Terms) (r2 : Places 36) → MatchingWith ps ws b0 l t st a q b (and1 (sign f vs) us) →
         term_in st p.0 ≡ sign f ts → Pushed st r ts r2 → MatchingWith ps ws b0 l t st (a + 2) r2 b (glue vs us)
     parts_next f vs us ts r2 m e d = record {
       over = over_next (sign f vs) us m;
@@ -257,7 +258,7 @@ module _ (ps ws : List ℕ) (b0 : Bindings) (l t : Term) (st : Store) (a : ℕ) 
         ne (one_place o.0 p.0 (m.bound_inside x o k) (place_inside (and1 (letter x) us) m) d)
 
     -- a turn at a sign
-    sign_with : (f : ℕ) (r2 : Pending) (res : Bool) → PartsPending st p f r r2 res → (vs us : Terms) →
+    sign_with : (f : ℕ) (r2 : Places 36) (res : Bool) → PartsPending st p f r r2 res → (vs us : Terms) →
         MatchingWith ps ws b0 l t st a q b (and1 (sign f vs) us) → Turned ps ws b0 l t st (a + 2) r2 b res
     sign_with f r2 true (ts, e, d) vs us m = (glue vs us, parts_next f vs us ts r2 m e d)
     sign_with f r2 false none_there vs us m = λ s g0 e.
@@ -280,7 +281,7 @@ module _ (ps ws : List ℕ) (b0 : Bindings) (l t : Term) (st : Store) (a : ℕ) 
         omega (arith, m.over.0, (here_symbol (letter z) us m).2, y.2)
     large_letter x y high (and1 (sign g vs) us, m) = zero_one (sym y.1 ∙ (here_symbol (sign g vs) us m).1)
 
-    pub sign_turn : (f : ℕ) → SymbolAt ws a (Some (Sign f)) → (r2 : Pending) (res : Bool) → PartsPending st p f r r2 res →
+    pub sign_turn : (f : ℕ) → SymbolAt ws a (Some (Sign f)) → (r2 : Places 36) (res : Bool) → PartsPending st p f r r2 res →
         Matching ps ws b0 l t st a q b → Turned ps ws b0 l t st (a + 2) r2 b res
     sign_turn f y r2 res h (none1, m) = absurd (no_patterns m)
     sign_turn f y r2 res h (and1 (letter z) us, m) = absurd (zero_one (sym (here_symbol (letter z) us m).1 ∙ y.1))
@@ -293,7 +294,7 @@ module _ (ps ws : List ℕ) (b0 : Bindings) (l t : Term) (st : Store) (a : ℕ) 
     no_turn y (and1 (letter z) us, m) = let h = here_symbol (letter z) us m in omega (arith, y h.0, h.1)
     no_turn y (and1 (sign g vs) us, m) = let h = here_symbol (sign g vs) us m in omega (arith, y h.0, h.1)
 
-pub of_place : (ws : List ℕ) (b0 : Bindings) (st : Store) (x y : Place) (a : ℕ) (q : Pending) (b : Bindings) → x ≡ y →
+pub of_place : (ws : List ℕ) (b0 : Bindings) (st : Store) (x y : Place) (a : ℕ) (q : Places 36) (b : Bindings) → x ≡ y →
     MatchesAll ws b0 st x a q b → MatchesAll ws b0 st y a q b
 of_place ws b0 st x y a q b e = subst (λ (p : Place). MatchesAll ws b0 st p a q b) e
 
@@ -330,8 +331,16 @@ instance_first st l t c m = record {
 pub none_first : (st : Store) (l t : Term) → MatchedOn st nothing l t None → (s : ℕ → Term) → put s l ≢ t
 none_first st l t m s e = m s (λ x r k. absurd (unbound x r k)) e
 
+-- one place on none
+pub only_one : (q r : Places 36) (p : Place) → q.len ≡ 0 → PutOn q p r → Single r p
+only_one q r p z o = record {
+  len = omega (arith, o.len);
+  place = ap (λ (ps : List Place). get_or ps 0 zero_place) (o.places ∙ ap (λ (n : ℕ). set q.places n p) z)
+      ∙ get_or-set_same q.places 0 p zero_place (omega (arith, o.all));
+}
+
 -- the start: the whole pattern, and one place
-module _ (ps ws : List ℕ) (l : Term) (st : Store) (p : Place) (q : Pending) (b : Bindings)
+module _ (ps ws : List ℕ) (l : Term) (st : Store) (p : Place) (q : Places 36) (b : Bindings)
     (pattern : Pattern ps ws l st p) (low : p.0 < st.count) (single : Single q p)
     (full : length b.at ≡ 32) (bound-low : AllInside st b) where
   one_pending : stacked st q.places q.len ≡ and1 (term_in st p.0) none1
@@ -360,7 +369,7 @@ module _ (ps ws : List ℕ) (l : Term) (st : Store) (p : Place) (q : Pending) (b
       inside (suc d) h = absurd (omega arith)
 
 -- the end: no symbol is left
-module _ (ps ws : List ℕ) (b0 : Bindings) (l t : Term) (st : Store) (a : ℕ) (q : Pending) (b : Bindings) where
+module _ (ps ws : List ℕ) (b0 : Bindings) (l t : Term) (st : Store) (a : ℕ) (q : Places 36) (b : Bindings) where
   all_matched : MatchingWith ps ws b0 l t st a q b none1 → Extended st b0 l t b
   all_matched m = record {
     enough = λ s h. m.enough s h (sym (ap (stacked st q.places) (sym m.counted)));

@@ -7,8 +7,9 @@ use Rattle.store.specs.declared.types.Store.{Store}
 use Rattle.store.specs.declared.types.Place.{Place}
 use Rattle.store.specs.Slots.{parts_by}
 use Rattle.store.specs.Stores.{term_in, part_in}
-use Rattle.engine.specs.declared.types.Pending.{Pending}
+use Rattle.engine.specs.declared.types.Places.{Places}
 use Rattle.engine.specs.Matching.{stacked, PlacesInside, Pushed}
+use Rattle.engine.specs.Building.{PutOn}
 
 abbrev pub zero_place : Place
 zero_place = record { 0 = 0 }
@@ -42,19 +43,6 @@ module _ (st : Store) where
           let e : d ≡ n = omega arith in
           subst (λ (i : ℕ). (get_or (set ps n q) i zero_place).0 < st.count) (sym e) (rw (get_or-set_same ps n q zero_place h) new)
 
-  -- nothing pushed yet; the part k in front of those behind it
-  pub pushed_none : (q : Pending) → PlacesInside st q.places q.len → Pushed st q none1 q
-  pushed_none q h = record { len = omega arith; terms = refl; inside = h }
-
-  pub pushed_more : (q r : Pending) (us : Terms) (p : Place) → Pushed st q us r → r.len < length r.places → p.0 < st.count →
-      Pushed st q (and1 (term_in st p.0) us) (record { places = set r.places r.len p; len = r.len + 1 })
-  pushed_more q r us p h l i =
-      record {
-        len = omega (arith, h.len);
-        terms = stacked_more r.places r.len p l ∙ ap (and1 (term_in st p.0)) h.terms;
-        inside = inside_more r.places r.len p l h.inside i;
-      }
-
   parts_from : (i k n : ℕ) → 0 < k → k ≤ n →
       parts_by (λ j. term_in st j) (λ m. part_in st i m) (k - 1) (n - (k - 1))
       ≡ and1 (term_in st (part_in st i (k - 1))) (parts_by (λ j. term_in st j) (λ m. part_in st i m) k (n - k))
@@ -64,13 +52,28 @@ module _ (st : Store) where
       ap (parts_by (λ j. term_in st j) (λ m. part_in st i m) (k - 1)) e
       ∙ ap (λ (m : ℕ). and1 (term_in st (part_in st i (k - 1))) (parts_by (λ j. term_in st j) (λ m. part_in st i m) m (n - k))) d
 
-  pub parts_more : (q r : Pending) (i k n : ℕ) (p : Place) → 0 < k → k ≤ n → p.0 ≡ part_in st i (k - 1) → p.0 < st.count →
-      r.len < length r.places →
-      Pushed st q (parts_by (λ j. term_in st j) (λ m. part_in st i m) k (n - k)) r →
-      Pushed st q (parts_by (λ j. term_in st j) (λ m. part_in st i m) (k - 1) (n - (k - 1)))
-      (record { places = set r.places r.len p; len = r.len + 1 })
-  parts_more q r i k n p l h e c m s =
+module _ (st : Store) {cap : ℕ} where
+  -- nothing pushed yet; the part k in front of those behind it
+  pub pushed_none : (q : Places cap) → PlacesInside st q.places q.len → Pushed st q none1 q
+  pushed_none q h = record { len = omega arith; terms = refl; inside = h }
+
+  pub pushed_more : (q r s : Places cap) (us : Terms) (p : Place) → Pushed st q us r → PutOn r p s → r.len < cap → p.0 < st.count →
+      Pushed st q (and1 (term_in st p.0) us) s
+  pushed_more q r s us p h o l i =
+      let low : r.len < length r.places = omega (arith, o.all) in
+      record {
+        len = omega (arith, h.len, o.len);
+        terms = ap₂ (λ (ps : List Place) (n : ℕ). stacked st ps n) o.places o.len
+            ∙ stacked_more st r.places r.len p low ∙ ap (and1 (term_in st p.0)) h.terms;
+        inside = λ d m. subst (λ (ps : List Place). (get_or ps d zero_place).0 < st.count) (sym o.places)
+            (inside_more st r.places r.len p low h.inside i d (omega (arith, o.len)));
+      }
+
+  pub parts_more : (q r s : Places cap) (i k n : ℕ) (p : Place) → 0 < k → k ≤ n → p.0 ≡ part_in st i (k - 1) → p.0 < st.count →
+      r.len < cap → PutOn r p s → Pushed st q (parts_by (λ j. term_in st j) (λ m. part_in st i m) k (n - k)) r →
+      Pushed st q (parts_by (λ j. term_in st j) (λ m. part_in st i m) (k - 1) (n - (k - 1))) s
+  parts_more q r s i k n p l h e c m o t =
       let us = parts_by (λ j. term_in st j) (λ m. part_in st i m) k (n - k) in
-      subst (λ (ts : Terms). Pushed st q ts (record { places = set r.places r.len p; len = r.len + 1 }))
-      (ap (λ (j : ℕ). and1 (term_in st j) us) e ∙ sym (parts_from i k n l h))
-      (pushed_more q r us p s m c)
+      subst (λ (ts : Terms). Pushed st q ts s)
+      (ap (λ (j : ℕ). and1 (term_in st j) us) e ∙ sym (parts_from st i k n l h))
+      (pushed_more q r s us p t o m c)

@@ -8,17 +8,17 @@ use Rattle.store.specs.declared.types.Place.{Place}
 use Rattle.store.specs.Stores.{Sound, Grown, term_in}
 use Rattle.store.specs.Transfers.{RowOf}
 use Rattle.engine.specs.declared.types.Bindings.{Bindings}
-use Rattle.engine.specs.declared.types.Built.{Built}
+use Rattle.engine.specs.declared.types.Places.{Places}
 use Rattle.engine.specs.Matching.{put_in, AllInside, Bound, stacked, PlacesInside}
 
--- one more of at most 32 places
-pub record PutOn (q : Built) (p : Place) (r : Built) : Type 0 where
-  pub all : length q.places ≡ 32
+-- one more of at most as many places as there are
+pub record PutOn {cap : ℕ} (q : Places cap) (p : Place) (r : Places cap) : Type 0 where
+  pub all : length q.places ≡ cap
   pub places : r.places ≡ slice_set q.places q.len p
   pub len : r.len ≡ q.len + 1
 
 -- the last n places are taken, the last one first
-pub record Taken (q : Built) (n : ℕ) (ps : List Place) (r : Built) : Type 0 where
+pub record Taken {cap : ℕ} (q : Places cap) (n : ℕ) (ps : List Place) (r : Places cap) : Type 0 where
   pub places : r.places ≡ q.places
   pub len : r.len + n ≡ q.len
   pub parts : (k : ℕ) → k < n → slice_index_or ps k (record { 0 = 0 }) ≡ slice_index_or q.places (q.len - 1 - k) (record { 0 = 0 })
@@ -35,19 +35,19 @@ pub record Fillable (ps ws : List ℕ) (b : Bindings) (t : Term) : Type 0 where
   pub bound : AllBound b t
 
 -- the sign f has parts enough among the terms that are built
-pub record PartsBuilt (ps : List ℕ) (f : ℕ) (q : Built) : Type 0 where
+pub record PartsBuilt (ps : List ℕ) (f : ℕ) (q : Places 32) : Type 0 where
   pub within : f < length ps
   pub few : get_or ps f 0 ≤ 4
   pub enough : get_or ps f 0 ≤ q.len
   pub space : q.len < 32 + slice_index ps f
 
 -- what the symbol wants: a letter is bound, and a sign has its parts
-abbrev pub Wants : List ℕ → Symbol → Bindings → Built → Type 0
+abbrev pub Wants : List ℕ → Symbol → Bindings → Places 32 → Type 0
 Wants ps (Letter x) b q = (q.len < 32) × (x < 32) × Bound b x
 Wants ps (Sign f) b q = PartsBuilt ps f q
 
 -- the symbol y can be built
-pub record Buildable (ps : List ℕ) (y : Symbol) (b : Bindings) (st : Store) (q : Built) : Type 0 where
+pub record Buildable (ps : List ℕ) (y : Symbol) (b : Bindings) (st : Store) (q : Places 32) : Type 0 where
   pub short : q.len ≤ 32
   pub inside : PlacesInside st q.places q.len
   pub bound_inside : AllInside st b
@@ -58,13 +58,13 @@ abbrev pub SignsAdded : Store → Store → Type 0
 SignsAdded st su = (i x : ℕ) → st.count ≤ i → i < su.count → term_in su i ≢ letter1 x
 
 -- one more term: what is put for a letter, or a sign with the next terms as parts
-abbrev pub TermMade : List ℕ → Symbol → Bindings → Store → Built → Store → Built → Type 0
+abbrev pub TermMade : List ℕ → Symbol → Bindings → Store → Places 32 → Store → Places 32 → Type 0
 TermMade ps (Letter x) b st q su r = stacked su r.places r.len ≡ and1 (put_in st b x) (stacked st q.places q.len)
 TermMade ps (Sign f) b st q su r = (vs us : Terms) → count vs ≡ slice_index ps f →
     stacked st q.places q.len ≡ glue vs us → stacked su r.places r.len ≡ and1 (sign1 f vs) us
 
 -- the symbol y is built
-pub record SymbolBuilt (ps : List ℕ) (y : Symbol) (b : Bindings) (st : Store) (q : Built) (su : Store) (r : Built) : Type 0 where
+pub record SymbolBuilt (ps : List ℕ) (y : Symbol) (b : Bindings) (st : Store) (q : Places 32) (su : Store) (r : Places 32) : Type 0 where
   pub sound : Sound su
   pub grown : Grown st su
   pub few : su.count ≤ st.count + 1

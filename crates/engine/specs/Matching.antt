@@ -8,7 +8,7 @@ use Rattle.store.specs.declared.types.Store.{Store}
 use Rattle.store.specs.declared.types.Place.{Place}
 use Rattle.store.specs.Stores.{term_in}
 use Rattle.engine.specs.declared.types.Bindings.{Bindings}
-use Rattle.engine.specs.declared.types.Pending.{Pending}
+use Rattle.engine.specs.declared.types.Places.{Places}
 
 -- what is bound to letter x
 abbrev pub bound : Bindings → ℕ → Maybe Place
@@ -82,31 +82,31 @@ abbrev pub PlacesInside : Store → List Place → ℕ → Type 0
 PlacesInside st ps n = (d : ℕ) → d < n → (get_or ps d (record { 0 = 0 })).0 < st.count
 
 -- one place
-pub record Single (q : Pending) (p : Place) : Type 0 where
+pub record Single {cap : ℕ} (q : Places cap) (p : Place) : Type 0 where
   pub len : q.len ≡ 1
   pub place : get_or q.places 0 (record { 0 = 0 }) ≡ p
 
 -- the last place is taken
-pub record Popped (q : Pending) (p : Place) (r : Pending) : Type 0 where
+pub record Popped {cap : ℕ} (q : Places cap) (p : Place) (r : Places cap) : Type 0 where
   pub places : r.places ≡ q.places
   pub len : r.len + 1 ≡ q.len
   pub place : p ≡ slice_index_or q.places r.len (record { 0 = 0 })
 
 -- places on top of n others, whose terms are in front of theirs
-pub record Pushed (st : Store) (q : Pending) (us : Terms) (r : Pending) : Type 0 where
+pub record Pushed {cap : ℕ} (st : Store) (q : Places cap) (us : Terms) (r : Places cap) : Type 0 where
   pub len : r.len ≡ q.len + count us
   pub terms : stacked st r.places r.len ≡ glue us (stacked st q.places q.len)
   pub inside : PlacesInside st r.places r.len
 
 -- the sign at a place is f, and its parts are pending; or the term there is not of sign f
-abbrev pub PartsPending : Store → Place → ℕ → Pending → Pending → Bool → Type 0
+abbrev pub PartsPending : {cap : ℕ} → Store → Place → ℕ → Places cap → Places cap → Bool → Type 0
 PartsPending st p f q r true = (us : Terms) × (term_in st p.0 ≡ sign f us) × Pushed st q us r
 PartsPending st p f q r false = (us : Terms) → term_in st p.0 ≢ sign f us
 
 -- where matching the pattern l with the term t has come to, from the bindings b0 on: the words from place a on are these patterns,
 -- for which the pending terms are wanted; what is put for letters as b0 says makes l the term t exactly if it is as the bindings say
 -- and makes the patterns these terms
-pub record MatchingWith (ps ws : List ℕ) (b0 : Bindings) (l t : Term) (st : Store) (a : ℕ) (q : Pending) (b : Bindings)
+pub record MatchingWith (ps ws : List ℕ) (b0 : Bindings) (l t : Term) (st : Store) (a : ℕ) (q : Places 36) (b : Bindings)
     (us : Terms) : Type 0 where
   pub over : AllOver SmallLetter ps us
   pub written : drop a ws ≡ rows us
@@ -120,19 +120,19 @@ pub record MatchingWith (ps ws : List ℕ) (b0 : Bindings) (l t : Term) (st : St
   pub needed : (s : ℕ → Term) → Agrees st b0 s → put s l ≡ t → Agrees st b s × (puts s us ≡ stacked st q.places q.len)
   pub letters : (x : ℕ) → Bound b0 x ⊎ In x l → Bound b x ⊎ Ins x us
 
-abbrev pub Matching : List ℕ → List ℕ → Bindings → Term → Term → Store → ℕ → Pending → Bindings → Type 0
+abbrev pub Matching : List ℕ → List ℕ → Bindings → Term → Term → Store → ℕ → Places 36 → Bindings → Type 0
 Matching ps ws b0 l t st a q b = (us : Terms) × MatchingWith ps ws b0 l t st a q b us
 
 -- that, of any pattern whose row the words are
-abbrev pub MatchesAll : List ℕ → Bindings → Store → Place → ℕ → Pending → Bindings → Type 0
+abbrev pub MatchesAll : List ℕ → Bindings → Store → Place → ℕ → Places 36 → Bindings → Type 0
 MatchesAll ws b0 st p a q b = (ps : List ℕ) (l : Term) → Pattern ps ws l st p → Matching ps ws b0 l (term_in st p.0) st a q b
 
 -- one symbol further, or nothing put for letters as b0 says makes l the term t
-abbrev pub Turned : List ℕ → List ℕ → Bindings → Term → Term → Store → ℕ → Pending → Bindings → Bool → Type 0
+abbrev pub Turned : List ℕ → List ℕ → Bindings → Term → Term → Store → ℕ → Places 36 → Bindings → Bool → Type 0
 Turned ps ws b0 l t st a q b true = Matching ps ws b0 l t st a q b
 Turned ps ws b0 l t st a q b false = (s : ℕ → Term) → Agrees st b0 s → put s l ≢ t
 
 -- a turn with the symbol at place a, whatever is matched
-abbrev pub Turns : List ℕ → Store → ℕ → Pending → Bindings → Pending → Bindings → Bool → Type 0
+abbrev pub Turns : List ℕ → Store → ℕ → Places 36 → Bindings → Places 36 → Bindings → Bool → Type 0
 Turns ws st a q b r c x = (ps : List ℕ) (b0 : Bindings) (l t : Term) →
     Matching ps ws b0 l t st a q b → Turned ps ws b0 l t st (a + 2) r c x

@@ -2,13 +2,12 @@
 #![tactic(auto)]
 
 mod bindings;
-mod built;
 mod frames;
 pub mod instance;
 pub mod matching;
 pub mod meeting;
 pub mod normal;
-mod pending;
+mod places;
 pub mod rows;
 pub mod rules;
 mod space;

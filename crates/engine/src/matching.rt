@@ -42,7 +42,8 @@ pub fn match_pattern(
         MatchedOn store.now bindings l (term_in store.now p.0) result }
 {
     let mut bindings = bindings;
-    let mut pending = Pending::new(p);
+    let mut pending = Pending::new();
+    pending.push(p);
     // Stays a loop over numbers: `symbol_at` wants the symbol's place.
     for k in 0..pattern.len() / 2 {
         if !match_symbol(pattern, 2 * k, store, &mut pending, &mut bindings) {

@@ -7,21 +7,19 @@ pub struct Bindings {
     pub at: [Option<Place>; 32],
 }
 
-// The places that are still to be matched, the next one last: as many as a side has symbols, and the parts of one more.
-// Stays an array with a length: a new `ArrayVec` is filled with zeros by a memset, which is waited for, as at `Built::new`.
+// Places, the next one last: at most N of them.
+// Stays an array with a length: a new `ArrayVec` is filled with zeros by a memset, which is waited for, as at `Places::new`.
 #[derive(Clone, Copy)]
-pub struct Pending {
-    pub places: [Place; 36],
+pub struct Places<const N: usize> {
+    pub places: [Place; N],
     pub len: usize,
 }
 
-// The places of terms that are built and not yet parts of another, the next one last: as many as a side has symbols.
-// Stays an array with a length, for the same reason.
-#[derive(Clone, Copy)]
-pub struct Built {
-    pub places: [Place; 32],
-    pub len: usize,
-}
+// The places that are still to be matched: as many as a side has symbols, and the parts of one more.
+pub type Pending = Places<36>;
+
+// The places of terms that are built and not yet parts of another: as many as a side has symbols.
+pub type Built = Places<32>;
 
 // A sign one of whose parts is worked at: how many others it has, how many of these are done, and, if it is known, the place from
 // which work at the part began.

@@ -3,9 +3,9 @@ use Rattle.std.proofs.Common.{◌≡◌, ◌+◌, ◌-◌}
 use Rattle.store.specs.Slots.{parts_by}
 use Rattle.store.specs.Stores.{term_in, part_in}
 use Rattle.engine.specs.Matching.{Pushed}
-use Rattle.engine.proofs.types.Pending.push_parts.Given as goal
+use Rattle.engine.proofs.types.Places.push_parts.Given as goal
 
 abbrev pub invariant-loop-k : goal.invariant-loop-k
-invariant-loop-k l = (l.self.len ≡ l.initial.self.len + (l.n - l.k))
+invariant-loop-k over l = (l.self.len ≡ l.initial.self.len + (l.n - l.k))
     × Pushed l.store l.initial.self
     (parts_by (λ j. term_in l.store j) (λ m. part_in l.store l.p.0 m) l.k (l.n - l.k)) l.self
