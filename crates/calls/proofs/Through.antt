@@ -108,9 +108,7 @@ module _ (k : Book) (sound : SoundBook k) where
 
     pub startable : Startable k loaded
     startable = record {
-      book = sound;
       down = down;
-      sound = read.sound;
       honest = honest_carried (told k).rules w.store b nothing_told read.carried;
       inside = read.roots.inside;
       some = omega (arith, top_one);

@@ -1,5 +1,6 @@
 -- A term is read, brought to normal form, and written.
 use Rattle.std.proofs.Common.{ℕ, ◌*◌, length, Err, sym, ap, ◌∙◌, subst, arith}
+use Rattle.std.proofs.lemmas.Result.{err_from_is_err_and}
 use Rattle.rewriting.specs.Terms.{Term, size}
 use Rattle.books.specs.Rows.{row}
 use Rattle.books.specs.Books.{told, sound_book_in}
@@ -14,7 +15,7 @@ read_row-requires c =
     let k = c.args.book.now in
     let (t, of) = c.requires.of in
     record {
-      sound = (none_inside _ _ c.requires.empty.1, few_parts k (sound_book_in k) _ c.parts.ensures);
+      inside = (none_inside _ _ c.requires.empty.1, few_parts k (sound_book_in k) _ c.parts.ensures);
       row_of = (t, row_here k (sound_book_in k) _ c.parts.ensures c.args.term.now t of);
     }
 
@@ -61,19 +62,37 @@ returns c =
     λ n m. (_, v, w.0 ∙ ap (λ (x : Term). 2 * size x) e, w.1 ∙ ap row e)
 
 pub returns-in_err-read_row : goal.returns-in_err-read_row
-returns-in_err-read_row c n m =
+returns-in_err-read_row c =
     let k = c.args.book.now in
     let (t, of) = c.requires.of in
     let here = row_here k (sound_book_in k) _ c.parts.ensures c.args.term.now t of in
-    ?
+    let p = err_from_is_err_and c.from_residual.result c.from_residual.ensures.1 in rw (p.1, p.2) λ n m.
+    not_read (told k) c.args.term.now t of n c.args.work.now _ _ c.requires.empty.1 m _ (c.in_err-read_row.ensures t here)
 
 pub returns-in_err-normalize : goal.returns-in_err-normalize
-returns-in_err-normalize c n m =
+returns-in_err-normalize c =
     let k = c.args.book.now in
     let s = sound_book_in k in
     let (t, of) = c.requires.of in
     let here = row_here k s _ c.parts.ensures c.args.term.now t of in
-    ?
+    let p = err_from_is_err_and c.from_residual-in_err-normalize.result c.from_residual-in_err-normalize.ensures.1 in
+    rw (p.1, p.2) λ n m. stopped k s c.requires.down c.args.term.now t of c.args.work.now _ _ c.requires.empty.0 c.requires.empty.1
+    (c.in_ok-read_row.ensures t here) n _ _ m c.in_err-normalize.ensures
 
 pub returns-in_err-written : goal.returns-in_err-written
-returns-in_err-written c n m = ?
+returns-in_err-written c =
+    let k = c.args.book.now in
+    let s = sound_book_in k in
+    let (t, of) = c.requires.of in
+    let here = row_here k s _ c.parts.ensures c.args.term.now t of in
+    let read = c.in_ok-read_row.ensures t here in
+    let x = c.in_ok-normalize.ensures in
+    let v = normal k s c.requires.down c.args.term.now t of c.args.work.now _ _ c.requires.empty.0 c.requires.empty.1 read _ x in
+    let one = one_root k s c.requires.down c.args.term.now t of c.args.work.now _ _ c.requires.empty.0 c.requires.empty.1 read _ x in
+    let e = ap (λ (j : ℕ). term_in c.normalize.new.self.store j) c.place-normal.ensures in
+    let w = subst (λ (y : Term). WrittenOrShort c.normalize.new.self.roots y c.args.out.now c.write_row.new.out
+    (Err c.in_err-written.field-0.0)) e c.in_err-written.ensures.written in
+    let p = err_from_is_err_and c.from_residual-in_err-written.result c.from_residual-in_err-written.ensures.1 in
+    rw (p.1, p.2) λ n m.
+    refused (told k) c.args.term.now c.args.out.now c.write_row.new.out c.normalize.new.self.roots _ n one
+    (cells_long k s c.requires.down c.args.term.now t of c.args.work.now _ _ c.requires.empty.0 c.requires.empty.1 read n _ m x) v _ w
