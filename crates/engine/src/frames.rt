@@ -104,20 +104,12 @@ impl Frames<'_> {
     // One more part of the top frame is done, and the next is asked for.
     pub fn go_on(&mut self, asked: Place)
         requires depth { (0 < self.old.depth) × (4 * self.old.depth ≤ length self.old.words.now) }
-        requires others { (frame_at self.old.words.now (self.old.depth - 1)).others ≤ 3 }
         requires done { (frame_at self.old.words.now (self.old.depth - 1)).done < 3 }
         ensures { GoneOn self.old asked self.new }
     {
         let d = self.depth - 1;
-        let frame = self.top();
-        self.put(
-            d,
-            Frame {
-                done: frame.done + 1,
-                asked: Some(asked),
-                ..frame
-            },
-        );
+        self.words[4 * d + 2] += 1;
+        self.words[4 * d + 3] = asked_word(Some(asked));
         self.fresh = self.fresh.min(d);
     }
 
