@@ -57,6 +57,11 @@ abbrev pub MatchedOn : Store → Bindings → Term → Term → Maybe Bindings �
 MatchedOn st b l t (Some c) = Extended st b l t c
 MatchedOn st b l t None = (s : ℕ → Term) → Agrees st b s → put s l ≢ t
 
+-- the bindings, if so
+abbrev pub given : Bool → Bindings → Maybe Bindings
+given true c = Some c
+given false c = None
+
 -- the words are the row of the pattern l, and the term at a place is over its signature
 pub record Pattern (ps ws : List ℕ) (l : Term) (st : Store) (p : Place) : Type 0 where
   pub over : Over SmallLetter ps l

@@ -24,9 +24,9 @@ abbrev pub TopSign : Store → Place → ℕ → Type 0
 TopSign st p f = (us : Terms) × (term_in st p.0 ≡ sign f us)
 
 -- a rule with what is put for the letters of its left side, or that no rule can be used
-abbrev pub RuleFound : Book → Store → Place → Maybe (ℕ × Bindings) → Type 0
-RuleFound k st p (Some (i, b)) = (i < length (told k).rules) × Instance st b (rule_in k i).left (term_in st p.0)
-RuleFound k st p None = Still (told k).rules (term_in st p.0)
+abbrev pub RuleFound : Book → Store → Place → Bindings → Maybe ℕ → Type 0
+RuleFound k st p b (Some i) = (i < length (told k).rules) × Instance st b (rule_in k i).left (term_in st p.0)
+RuleFound k st p b None = Still (told k).rules (term_in st p.0)
 
 -- the term t is a left side, and the right side of its rule stands at place q, with the same put for letters
 pub record ByRule (rs : List Eq) (t : Term) (su : Store) (q : Place) : Type 0 where

@@ -2,7 +2,7 @@
 ghost use Rattle.std.specs.Prelude.{◌≡◌, ℕ, ◌*◌, ◌<◌, ◌≤◌, List, length};
 ghost use Rattle.rewriting.specs.Terms.{Term};
 ghost use Rattle.store.specs.Stores.{term_in};
-ghost use Rattle.engine.specs.Matching.{AllInside, MatchedOn, Pattern, PlacesInside, SomePattern, Turns};
+ghost use Rattle.engine.specs.Matching.{given, AllInside, MatchedOn, Pattern, PlacesInside, SomePattern, Turns};
 
 use crate::types::{Bindings, Pending};
 use books::words::{Symbol, symbol_at};
@@ -28,8 +28,28 @@ fn match_symbol(
     }
 }
 
-// Binds the letters of a pattern, so that it becomes the term at p, as far as they are not bound yet; none if nothing put for them, as
-// far as they are bound, does that.
+// Binds the letters of a pattern, so that it becomes the term at p, as far as they are not bound yet; or says that nothing put for them,
+// as far as they are bound, does that.
+// Stays a bool with what is bound behind a reference: by value half a kilobyte is copied for each rule that is tried, which makes a run
+// that counts down a quarter longer.
+pub fn bind_pattern(pattern: &[u32], store: &Store, p: Place, bindings: &mut Bindings) -> bool
+    requires pattern { (p.0 < store.now.count) × (SomePattern pattern.now store.now p) }
+    requires bindings { (length bindings.old.at ≡ 32) × (AllInside store.now bindings.old) }
+    ensures { (ps : List ℕ) (l : Term) → Pattern ps pattern.now l store.now p →
+        MatchedOn store.now bindings.old l (term_in store.now p.0) (given result bindings.new) }
+{
+    let mut pending = Pending::new();
+    pending.push(p);
+    // Stays a loop over numbers: `symbol_at` wants the symbol's place.
+    for k in 0..pattern.len() / 2 {
+        if !match_symbol(pattern, 2 * k, store, &mut pending, bindings) {
+            return false;
+        }
+    }
+    true
+}
+
+// The same with what is bound by value; none if nothing put for the letters does that.
 pub fn match_pattern(
     pattern: &[u32],
     store: &Store,
@@ -42,13 +62,8 @@ pub fn match_pattern(
         MatchedOn store.now bindings l (term_in store.now p.0) result }
 {
     let mut bindings = bindings;
-    let mut pending = Pending::new();
-    pending.push(p);
-    // Stays a loop over numbers: `symbol_at` wants the symbol's place.
-    for k in 0..pattern.len() / 2 {
-        if !match_symbol(pattern, 2 * k, store, &mut pending, &mut bindings) {
-            return None;
-        }
+    if !bind_pattern(pattern, store, p, &mut bindings) {
+        return None;
     }
     Some(bindings)
 }

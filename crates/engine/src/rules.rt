@@ -2,39 +2,47 @@
 ghost use Rattle.std.specs.Prelude.{◌+◌, ◌<◌, ◌≤◌, length};
 ghost use Rattle.store.specs.Stores.{term_in};
 ghost use Rattle.books.specs.Books.{told, rule_in};
-ghost use Rattle.engine.specs.Matching.{MatchedOn, nothing};
+ghost use Rattle.engine.specs.Matching.{given, MatchedOn, nothing};
 ghost use Rattle.engine.specs.Rewriting.{Rewritable, Rewritten, RuleFound, TopSign};
 
 use crate::instance::row_instance;
-use crate::matching::match_pattern;
+use crate::matching::bind_pattern;
 use crate::types::Bindings;
 use books::Book;
 use store::{Node, Place, Store};
 
 // Matches the left side of rule i with the term at p, whose top sign is f. Most rules fail at that sign already.
-fn match_rule(book: &Book, i: usize, store: &Store, p: Place, f: u32) -> Option<Bindings>
+fn match_rule(
+    book: &Book,
+    i: usize,
+    store: &Store,
+    p: Place,
+    f: u32,
+    bindings: &mut Bindings,
+) -> bool
     requires { (Rewritable book.now store.now p) × ((i < length (told book.now).rules) × (TopSign store.now p f)) }
-    ensures { MatchedOn store.now nothing (rule_in book.now i).left (term_in store.now p.0) result }
+    ensures { MatchedOn store.now nothing (rule_in book.now i).left (term_in store.now p.0) (given result bindings.new) }
 {
     let left = book.left(i);
     if left[1] != f {
-        return None;
+        return false;
     }
-    match_pattern(left, store, p, Bindings::new())
+    *bindings = Bindings::new();
+    bind_pattern(left, store, p, bindings)
 }
 
-// The first rule whose left side matches the term at p, with what is put for its letters.
-fn find_rule(book: &Book, store: &Store, p: Place) -> Option<(usize, Bindings)>
+// The first rule whose left side matches the term at p, with what is put for its letters, by reference as at `bind_pattern`.
+fn find_rule(book: &Book, store: &Store, p: Place, bindings: &mut Bindings) -> Option<usize>
     requires { Rewritable book.now store.now p }
-    ensures { RuleFound book.now store.now p result }
+    ensures { RuleFound book.now store.now p bindings.new result }
 {
     let Node::Sign(f, _) = store.view(p) else {
         return None;
     };
     // Stays a loop over numbers: a book gives its rules by their numbers.
     for i in 0..book.layout.rules() {
-        if let Some(bindings) = match_rule(book, i, store, p, f) {
-            return Some((i, bindings));
+        if match_rule(book, i, store, p, f, bindings) {
+            return Some(i);
         }
     }
     None
@@ -45,6 +53,7 @@ pub fn rewrite(book: &Book, store: &mut Store, p: Place) -> Option<Place>
     requires { (Rewritable book.now store.old p) × (store.old.count + 32 ≤ store.old.limit) }
     ensures { Rewritten (told book.now).rules store.old p store.new result }
 {
-    let (i, bindings) = find_rule(book, store, p)?;
+    let mut bindings = Bindings::new();
+    let i = find_rule(book, store, p, &mut bindings)?;
     Some(row_instance(book.parts(), book.right(i), &bindings, store))
 }

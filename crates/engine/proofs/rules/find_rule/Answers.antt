@@ -15,7 +15,7 @@ returns-in_default c = still c.args.book.now c.args.store.now c.args.p c.require
 pub loop-i-preserved : goal.loop-i-preserved
 loop-i-preserved c = below_more
     (λ k. (s : ℕ → Term) → put s (rule_in c.args.book.now k).left ≡ term_in c.args.store.now c.args.p.0 → ⊥) _
-    c.loop-i.invariant (none_first c.args.store.now _ _ c.in_default-match_rule.ensures)
+    c.loop-i.invariant (none_first c.args.store.now _ _ c.if-match_rule.ensures)
 
 pub returns : goal.returns
 returns c = still c.args.book.now c.args.store.now c.args.p c.requires

@@ -3,7 +3,7 @@ use Rattle.std.proofs.Common.{◌≡◌, Some, length, ap, subst, arith}
 use Rattle.store.specs.Stores.{term_in}
 use Rattle.books.specs.Books.{rule_in}
 use Rattle.engine.specs.declared.types.Bindings.{Bindings}
-use Rattle.engine.specs.Matching.{bound, MatchedOn}
+use Rattle.engine.specs.Matching.{given, bound, MatchedOn}
 use Rattle.engine.proofs.Matcher.{fresh_is, unbound}
 use Rattle.engine.proofs.Trying.{sign_told, other_sign, left_pattern}
 use Rattle.engine.proofs.rules.match_rule.Goals as goal
@@ -17,8 +17,8 @@ returns-then-left-f c s g e =
     other_sign c.args.book.now c.args.store.now c.args.p c.requires.0 c.args.i c.requires.1.0 _ c.args.f
     c.left-left.ensures c.if-left-f.true c.requires.1.1 s e
 
-pub match_pattern-requires-clause-pattern : goal.match_pattern-requires-clause-pattern
-match_pattern-requires-clause-pattern c = (
+pub bind_pattern-requires-clause-pattern : goal.bind_pattern-requires-clause-pattern
+bind_pattern-requires-clause-pattern c = (
   c.requires.0.inside,
   (
     _,
@@ -27,8 +27,8 @@ match_pattern-requires-clause-pattern c = (
   ),
 )
 
-pub match_pattern-requires-clause-bindings : goal.match_pattern-requires-clause-bindings
-match_pattern-requires-clause-bindings c = (
+pub bind_pattern-requires-clause-bindings : goal.bind_pattern-requires-clause-bindings
+bind_pattern-requires-clause-bindings c = (
   ap length c.new.ensures,
   λ x q k. absurd (unbound x q (subst (λ (b : Bindings). bound b x ≡ Some q) (fresh_is c.new.result c.new.ensures) k)),
 )
@@ -36,6 +36,6 @@ match_pattern-requires-clause-bindings c = (
 pub returns : goal.returns
 returns c =
     subst (λ (b : Bindings). MatchedOn c.args.store.now b (rule_in c.args.book.now c.args.i).left (term_in c.args.store.now c.args.p.0)
-    c.match_pattern.result) (fresh_is c.new.result c.new.ensures)
-    (c.match_pattern.ensures _ _
+    (given c.bind_pattern.result c.bind_pattern.new.bindings)) (fresh_is c.new.result c.new.ensures)
+    (c.bind_pattern.ensures _ _
     (left_pattern c.args.book.now c.args.i c.requires.1.0 _ c.args.store.now c.args.p c.left-left.ensures c.requires.0.fits))
