@@ -26,7 +26,7 @@ impl Classes {
     }
 
     // The class that is known by a becomes one with the class that is known by b.
-    pub fn relabel(&mut self, a: Place, b: Place)
+    pub(crate) fn relabel(&mut self, a: Place, b: Place)
         requires { b.0 < 96 }
         ensures { Relabelled self.old a.0 b.0 self.new }
     {
