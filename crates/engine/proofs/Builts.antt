@@ -66,18 +66,21 @@ parts_taken st q n xs r vs us t c e =
     let l : r.len ≡ q.len - n = omega (arith, t.len) in
     (i.0, ap₂ (λ (ps : List Place) (m : ℕ). stacked st ps m) t.places l ∙ i.1)
 
-pub taken_inside : (st : Store) (q : Places 32) (n : ℕ) (xs : List Place) (r : Places 32) → Taken q n xs r → PlacesInside st q.places q.len →
+pub taken_inside : (st : Store) (q : Places 32) (n : ℕ) (xs : List Place) (r : Places 32) → Taken q n xs r → PlacesInside st q.places
+    q.len →
     PlacesInside st r.places r.len
 taken_inside st q n xs r t h d l =
     subst (λ (ps : List Place). (get_or ps d zero_place).0 < st.count) (sym t.places) (h d (omega (arith, t.len)))
 
-pub parts_inside : (st : Store) (q : Places 32) (n : ℕ) (xs : List Place) (r : Places 32) → Taken q n xs r → PlacesInside st q.places q.len →
+pub parts_inside : (st : Store) (q : Places 32) (n : ℕ) (xs : List Place) (r : Places 32) → Taken q n xs r → PlacesInside st q.places
+    q.len →
     (k : ℕ) → k < n → (get_or xs k zero_place).0 < st.count
 parts_inside st q n xs r t h k l =
     subst (λ (p : Place). p.0 < st.count) (sym (t.parts k l)) (h (q.len - 1 - k) (omega (arith, t.len)))
 
 -- a sign in the place of its parts
-pub sign_on_top : (st : Store) (q : Places 32) (f n : ℕ) (xs : List Place) (r : Places 32) (su : Store) (p : Place) (u : Places 32) (vs us : Terms) →
+pub sign_on_top : (st : Store) (q : Places 32) (f n : ℕ) (xs : List Place) (r : Places 32) (su : Store) (p : Place) (u : Places 32)
+    (vs us : Terms) →
     Taken q n xs r → SignShared st f xs n su p → PutOn r p u → r.len < length r.places → PlacesInside st q.places q.len →
     count vs ≡ n → stacked st q.places q.len ≡ glue vs us → stacked su u.places u.len ≡ and1 (sign f vs) us
 sign_on_top st q f n xs r su p u vs us t s o l h c e =

@@ -1,5 +1,6 @@
 -- A turn that goes to the first part of a sign.
-use Rattle.std.proofs.Common.{◌≡◌, ℕ, suc, ◌+◌, ◌-◌, ◌<◌, ◌≤◌, List, ◌∷◌, Option, Some, None, sym, refl, ap, ◌∙◌, subst, ap₂, inl, inr, add-one, arith}
+use Rattle.std.proofs.Common.{◌≡◌, ℕ, suc, ◌+◌, ◌-◌, ◌<◌, ◌≤◌, List, ◌∷◌, Option, Some, None, sym, refl, ap, ◌∙◌, subst, ap₂, inl, inr}
+use Rattle.std.proofs.Common.{add-one, arith}
 use Rattle.std.proofs.lemmas.Option.{none-some}
 use native.Mathlib.Decide.{dec_lt}
 use Rattle.rewriting.specs.Terms.{Term, sign, Terms, none1, and1}
@@ -18,7 +19,8 @@ use Rattle.engine.specs.declared.types.Focus.TheVariants.{Eval}
 use Rattle.engine.specs.Frames.{frame_at, Remembered, FramePushed}
 use Rattle.engine.specs.Running.{run, frames_of, Framed, frames_in, state_in, Asks, AskedFor, Running}
 use Rattle.engine.specs.Turning.{SpaceForTurn, TurnedTo, OthersPushed}
-use Rattle.engine.proofs.Contexts.{work, run_shift, run_by, frames_top, framed_top, frames_same, framed_same, framed_low, frames_length, asks_map}
+use Rattle.engine.proofs.Contexts.{work, run_shift, run_by, frames_top, framed_top, frames_same, framed_same, framed_low}
+use Rattle.engine.proofs.Contexts.{frames_length, asks_map}
 use Rattle.engine.proofs.Advancing.{holding_same}
 use Rattle.engine.proofs.Going.{asked_less}
 

@@ -115,7 +115,8 @@ module _ (rs : List Eq) where
   focus_holding su sv h (Back p) l = ap back (h.terms p.0 l)
 
   pub turned_holding : (low : ℕ) (st : Store) (q : Roots) (fr : Frames) (c : Focus) (su : Store) (r : Roots) (gr : Frames) (e : Focus)
-      (sv : Store) → TurnedTo rs low (work st q fr) c (work su r gr) e → Holding rs su sv → TurnedTo rs low (work st q fr) c (work sv r gr) e
+      (sv : Store) → TurnedTo rs low (work st q fr) c (work su r gr) e → Holding rs su sv → TurnedTo rs low (work st q fr) c (work sv
+      r gr) e
   turned_holding low st q fr c su r gr e sv t h =
       let x = t.running in
       let i = focus_place e in

@@ -25,7 +25,8 @@ use Rattle.engine.specs.Running.{run, frames_of, Framed, focus_place, focus_of, 
 use Rattle.engine.specs.Turning.{ComesTo, Applied, Ready, TurnedTo, PartsGathered}
 use Rattle.engine.proofs.Pendings.{zero_place}
 use Rattle.engine.proofs.Honesty.{holding_grown, holding_on}
-use Rattle.engine.proofs.Contexts.{work, run_shift, run_by, run_behind, frames_same, framed_same, framed_low, frames_length, asks_map, asks_steps}
+use Rattle.engine.proofs.Contexts.{work, run_shift, run_by, run_behind, frames_same, framed_same, framed_low, frames_length, asks_map}
+use Rattle.engine.proofs.Contexts.{asks_steps}
 use Rattle.engine.proofs.Going.{asked_less, asked_on, asked_holding, comes_inside, comes_steps, comes_apply}
 use Rattle.engine.proofs.Onward.{depth_more, framed_more}
 

@@ -11,13 +11,15 @@ loop-k-init c =
     of_place c.args.pattern.now c.args.bindings.now c.args.store.now c.args.p _ 0 c.push.new.self c.args.bindings.now
     (sym (only_one c.new-pending.result c.push.new.self c.args.p c.new-pending.ensures c.push.ensures).place)
     (λ ps u h. match_start ps c.args.pattern.now u c.args.store.now c.args.p c.push.new.self c.args.bindings.now h
-    c.requires.pattern.0 (only_one c.new-pending.result c.push.new.self c.args.p c.new-pending.ensures c.push.ensures) c.requires.bindings.0 c.requires.bindings.1)
+    c.requires.pattern.0 (only_one c.new-pending.result c.push.new.self c.args.p c.new-pending.ensures c.push.ensures)
+    c.requires.bindings.0 c.requires.bindings.1)
 
 pub match_symbol-requires : goal.match_symbol-requires
 match_symbol-requires c =
     let (ps, u, h) = c.requires.pattern.1 in
     let m = of_place c.args.pattern.now c.args.bindings.now c.args.store.now _ c.args.p
-    (2 * c.loop-k.k) c.loop-k.pending c.loop-k.bindings (only_one c.new-pending.result c.push.new.self c.args.p c.new-pending.ensures c.push.ensures).place c.loop-k.invariant in
+    (2 * c.loop-k.k) c.loop-k.pending c.loop-k.bindings (only_one c.new-pending.result c.push.new.self c.args.p c.new-pending.ensures
+    c.push.ensures).place c.loop-k.invariant in
     let room = match_room ps c.args.pattern.now c.args.bindings.now u (term_in c.args.store.now c.args.p.0) c.args.store.now
     (2 * c.loop-k.k) c.loop-k.pending c.loop-k.bindings (omega (arith, ap length h.written, row_length u, h.short))
     (omega (arith, c.loop-k-test.true)) (m ps u h) in
@@ -26,7 +28,8 @@ match_symbol-requires c =
 pub returns-then-not-match_symbol : goal.returns-then-not-match_symbol
 returns-then-not-match_symbol c ps u h =
     let m = of_place c.args.pattern.now c.args.bindings.now c.args.store.now _ c.args.p
-    (2 * c.loop-k.k) c.loop-k.pending c.loop-k.bindings (only_one c.new-pending.result c.push.new.self c.args.p c.new-pending.ensures c.push.ensures).place c.loop-k.invariant in
+    (2 * c.loop-k.k) c.loop-k.pending c.loop-k.bindings (only_one c.new-pending.result c.push.new.self c.args.p c.new-pending.ensures
+    c.push.ensures).place c.loop-k.invariant in
     c.if-not-match_symbol.ensures ps c.args.bindings.now u (term_in c.args.store.now c.args.p.0) (m ps u h)
 
 pub loop-k-preserved : goal.loop-k-preserved
@@ -40,7 +43,8 @@ loop-k-preserved c ps u h =
 pub returns : goal.returns
 returns c ps u h =
     let m = of_place c.args.pattern.now c.args.bindings.now c.args.store.now _ c.args.p
-    (2 * c.loop-k.k) c.loop-k.pending c.loop-k.bindings (only_one c.new-pending.result c.push.new.self c.args.p c.new-pending.ensures c.push.ensures).place c.loop-k.invariant in
+    (2 * c.loop-k.k) c.loop-k.pending c.loop-k.bindings (only_one c.new-pending.result c.push.new.self c.args.p c.new-pending.ensures
+    c.push.ensures).place c.loop-k.invariant in
     match_end ps c.args.pattern.now c.args.bindings.now u (term_in c.args.store.now c.args.p.0) c.args.store.now
     (2 * c.loop-k.k) c.loop-k.pending c.loop-k.bindings (m ps u h)
     (omega (arith, c.loop-k-test.false, ap length h.written, row_length u))

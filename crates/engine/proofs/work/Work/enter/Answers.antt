@@ -10,7 +10,8 @@ use Rattle.engine.proofs.work.Work.enter.Goals as goal
 
 pub advance-requires-clause-rewritable : goal.advance-requires-clause-rewritable
 advance-requires-clause-rewritable c = (
-  eval_rewritable c.args.book.now c.requires.can_turn.0.0 c.args.self.now.store c.args.self.now.roots c.args.self.now.frames c.args.p c.requires.can_turn.0.1,
+  eval_rewritable c.args.book.now c.requires.can_turn.0.0 c.args.self.now.store c.args.self.now.roots c.args.self.now.frames c.args.p
+      c.requires.can_turn.0.1,
   omega (arith, c.requires.can_turn.1.slots),
 )
 

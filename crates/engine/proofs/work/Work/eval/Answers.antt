@@ -16,7 +16,8 @@ apply-requires-clause-done c = elim c.in_default.branch [
       leaf_normal c.args.book.now c.requires.0.0 c.args.self.now.store c.args.self.now.roots c.args.self.now.frames c.args.p c.requires.0.1
       w.in-Sign.f w.in-Sign.n w.in-Sign.ensures.2 (omega (arith, w.if-n-gt0.false))
   | in_default-via-in_default w ↦ λ h.
-      letter_normal c.args.book.now c.requires.0.0 c.args.self.now.store c.args.self.now.roots c.args.self.now.frames c.args.p c.requires.0.1
+      letter_normal c.args.book.now c.requires.0.0 c.args.self.now.store c.args.self.now.roots c.args.self.now.frames c.args.p
+      c.requires.0.1
       w.in_default.field-0 w.in_default.ensures.1
 ]
 

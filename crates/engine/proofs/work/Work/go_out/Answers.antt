@@ -10,7 +10,8 @@ apply-requires-clause-rewritable c =
     let (low, ready) = c.requires.can_turn in
     let k = c.requires.count_bound.1.0 in
     let sh = c.share_sign-p.ensures.shared in (
-      out_rewritable c.args.book.now low c.args.self.now.store c.args.self.now.roots c.args.self.now.frames c.args.v ready k.some c.args.frame k.is c.gather_parts-parts.result
+      out_rewritable c.args.book.now low c.args.self.now.store c.args.self.now.roots c.args.self.now.frames c.args.v ready k.some
+          c.args.frame k.is c.gather_parts-parts.result
           c.share_sign-p.new.self c.share_sign-p.result c.requires.count_bound.1.1 c.gather_parts-parts.ensures sh,
       omega (arith, sh.few, sh.grown.limit, c.requires.count_bound.0),
     )
@@ -24,7 +25,8 @@ pub apply-requires-clause-done : goal.apply-requires-clause-done
 apply-requires-clause-done c =
     let (low, ready) = c.requires.can_turn in
     let k = c.requires.count_bound.1.0 in
-    out_done c.args.book.now low c.args.self.now.store c.args.self.now.roots c.args.self.now.frames c.args.v ready k.some c.args.frame k.is c.gather_parts-parts.result
+    out_done c.args.book.now low c.args.self.now.store c.args.self.now.roots c.args.self.now.frames c.args.v ready k.some
+    c.args.frame k.is c.gather_parts-parts.result
     c.share_sign-p.new.self c.share_sign-p.result c.requires.count_bound.1.1 c.gather_parts-parts.ensures
     c.share_sign-p.ensures.shared
 

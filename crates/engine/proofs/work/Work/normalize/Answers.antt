@@ -14,14 +14,16 @@ use Rattle.engine.proofs.work.Work.normalize.Goals as goal
 pub loop-next-init : goal.loop-next-init
 loop-next-init c =
     under_way c.args.book.now (c.args.self.now.roots.top - 1) (work c.args.self.now.store c.truncate.new.self c.clear.new.self)
-    (Eval c.place.result) (first_ready c.args.book.now c.args.self.now c.requires c.truncate.new.self c.truncate.ensures c.clear.new.self c.clear.ensures
+    (Eval c.place.result) (first_ready c.args.book.now c.args.self.now c.requires c.truncate.new.self c.truncate.ensures
+    c.clear.new.self c.clear.ensures
     c.place.result c.place.ensures)
 
 pub loop-next-smaller : goal.loop-next-smaller
 loop-next-smaller c =
     let low = c.args.self.now.roots.top - 1 in
     let first = work c.args.self.now.store c.truncate.new.self c.clear.new.self in
-    let turn = subst (λ (x : ControlFlow Place Focus). Stepped c.args.book.now low c.loop-next.self c.loop-next.focus c.step.new.self (Ok x))
+    let turn = subst (λ (x : ControlFlow Place Focus). Stepped c.args.book.now low c.loop-next.self c.loop-next.focus c.step.new.self
+    (Ok x))
     c.in-Ok-Continue.field-0-is (c.in-Ok-Continue.ensures low c.loop-next.invariant.ready) in
     falls c.args.book.now low first (whole (state_in first (Eval c.place.result))) c.loop-next.self c.loop-next.focus
     c.loop-next.invariant c.step.new.self c.in-Ok-Continue.next turn
@@ -30,7 +32,8 @@ pub loop-next-preserved : goal.loop-next-preserved
 loop-next-preserved c =
     let low = c.args.self.now.roots.top - 1 in
     let first = work c.args.self.now.store c.truncate.new.self c.clear.new.self in
-    let turn = subst (λ (x : ControlFlow Place Focus). Stepped c.args.book.now low c.loop-next.self c.loop-next.focus c.step.new.self (Ok x))
+    let turn = subst (λ (x : ControlFlow Place Focus). Stepped c.args.book.now low c.loop-next.self c.loop-next.focus c.step.new.self
+    (Ok x))
     c.in-Ok-Continue.field-0-is (c.in-Ok-Continue.ensures low c.loop-next.invariant.ready) in
     further c.args.book.now low first (whole (state_in first (Eval c.place.result))) c.loop-next.self c.loop-next.focus
     c.loop-next.invariant c.step.new.self c.in-Ok-Continue.next turn

@@ -39,7 +39,8 @@ read_row-requires-2-clause-row_of c = (
 
 pub returns-in_err-read_row-2 : goal.returns-in_err-read_row-2
 returns-in_err-read_row-2 c =
-    let first = subst (λ (ps : _). (t : _) → RowOf ps c.args.left.now t → Read c.args.self.now.store c.args.self.now.roots t c.read_row.new.self
+    let first = subst (λ (ps : _). (t : _) → RowOf ps c.args.left.now t → Read c.args.self.now.store c.args.self.now.roots t
+    c.read_row.new.self
     c.read_row.new.roots (Ok tt)) (c.parts.ensures ∙ sym c.parts-2.ensures) c.in_ok-read_row.ensures in
     no_second c.args.book.now _ c.parts-2.ensures c.args.self.now c.requires.1
     c.args.left.now c.args.right.now c.requires.0 c.read_row.new.self c.read_row.new.roots
@@ -48,7 +49,8 @@ returns-in_err-read_row-2 c =
 
 pub returns : goal.returns
 returns c =
-    let first = subst (λ (ps : _). (t : _) → RowOf ps c.args.left.now t → Read c.args.self.now.store c.args.self.now.roots t c.read_row.new.self
+    let first = subst (λ (ps : _). (t : _) → RowOf ps c.args.left.now t → Read c.args.self.now.store c.args.self.now.roots t
+    c.read_row.new.self
     c.read_row.new.roots (Ok tt)) (c.parts.ensures ∙ sym c.parts-2.ensures) c.in_ok-read_row.ensures in
     both_read c.args.book.now _ c.parts-2.ensures c.args.self.now c.requires.1
     c.args.left.now c.args.right.now c.requires.0 c.read_row.new.self c.read_row.new.roots

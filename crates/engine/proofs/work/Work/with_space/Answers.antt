@@ -6,7 +6,8 @@ use Rattle.engine.proofs.work.Work.with_space.Goals as goal
 
 pub returns-then-not-has_space : goal.returns-then-not-has_space
 returns-then-not-has_space c rs low run1 =
-    no_words rs low c.args.self.now.store c.args.self.now.roots c.args.self.now.frames c.args.focus run1 (c.if-not-has_space.ensures.no refl)
+    no_words rs low c.args.self.now.store c.args.self.now.roots c.args.self.now.frames c.args.focus run1
+    (c.if-not-has_space.ensures.no refl)
 
 pub returns-then-self : goal.returns-then-self
 returns-then-self c rs low run1 =
