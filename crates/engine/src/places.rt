@@ -82,6 +82,7 @@ impl<const N: usize> Places<N> {
         requires { (n ≤ 4) × ((n ≤ self.old.len) × (self.old.len ≤ N)) }
         ensures { Taken self.old n result self.new }
     {
+        // Stays four calls: a closure for `from_fn` would have to repeat both clauses of `part`.
         let parts = [
             self.part(n, 0),
             self.part(n, 1),

@@ -16,6 +16,7 @@ use crate::rules::rewrite;
 use crate::types::{Focus, Frame};
 use crate::work::Work;
 use books::Book;
+use std::array;
 use store::{Node, Place, Roots, Store};
 
 // What the term at p comes to at once: its normal form if that is known, or what a rule makes of it at its top.
@@ -75,12 +76,7 @@ fn gather_parts(roots: &Roots, from: usize, n: usize, v: Place) -> [Place; 4]
     requires { (n ≤ 3) × (HasRoots roots.now.cells.now (from + n)) }
     ensures { PartsGathered roots.now from n v result }
 {
-    [
-        frame_part(roots, from, n, v, 0),
-        frame_part(roots, from, n, v, 1),
-        frame_part(roots, from, n, v, 2),
-        frame_part(roots, from, n, v, 3),
-    ]
+    array::from_fn(|k| frame_part(roots, from, n, v, k))
 }
 
 impl Work<'_> {
