@@ -1,5 +1,5 @@
 -- From a term's row to that of its normal form.
-use Rattle.std.proofs.Common.{◌≡◌, ℕ, ◌+◌, ◌-◌, ◌*◌, ◌<◌, ◌≤◌, List, [], ◌∷◌, length, Ok, Err, sym, ap, ◌∙◌}
+use Rattle.std.proofs.Common.{◌≡◌, ℕ, ◌+◌, ◌-◌, ◌*◌, ◌<◌, ◌≤◌, List, [], ◌∷◌, length, Ok, Err, Result, sym, ap, ◌∙◌}
 use Rattle.std.proofs.Common.{subst, arith}
 use native.Mathlib.Decide.{dec_lt}
 use Rattle.rewriting.specs.Terms.{Term, size, Fits, SmallLetter}
@@ -11,7 +11,7 @@ use Rattle.rewriting.proofs.Signature.{over_fits}
 use Rattle.rewriting.specs.Books.{Book as Told}
 use Rattle.books.specs.Rows.{Of}
 use Rattle.books.specs.Layouts.{FewParts}
-use Rattle.books.specs.Books.{told, SoundBook}
+use Rattle.books.specs.Books.{told, sound_book_in}
 use Rattle.books.specs.declared.row.Book.{Book}
 use Rattle.books.proofs.Heads.{head_of}
 use Rattle.books.proofs.Building.{book_parts}
@@ -47,12 +47,12 @@ module _ (b : Told) (ts : List ℕ) (t : Term) (of : Of b.parts ts t) (n : ℕ) 
   by_different : (u : Term) → Steps b.rules t u → n < different (u ∷ []) → Outgrown b ts n
   by_different u s l = outgrown u s (omega (arith, different_size u))
 
-  pub not_read : (w : Work) (c : Store) (r : Roots) → w.roots.top ≡ 0 → Ample n w → (x : Full) →
+  pub unread : (w : Work) (c : Store) (r : Roots) → w.roots.top ≡ 0 → Ample n w → (x : Full) →
       Read w.store w.roots t c r (Err x) → Outgrown b ts n
-  not_read w c r bare m NoSlot h =
+  unread w c r bare m NoSlot h =
       let e = ap (λ (j : ℕ). different (t ∷ listed (λ k. held w.store w.roots k) j)) bare in
       by_different t stay (omega (arith, e, h.roots.1, m.slots))
-  not_read w c r bare m NoRoot h = outgrown t stay (at (dec_lt n (size t)))
+  unread w c r bare m NoRoot h = outgrown t stay (at (dec_lt n (size t)))
     where
       at : Dec (n < size t) → n < size t
       at (yes l) = l
@@ -66,78 +66,98 @@ module _ (b : Told) (ts : List ℕ) (t : Term) (of : Of b.parts ts t) (n : ℕ) 
   wanting room words cells low g u e a c d s (few_words l) = by_different u s (omega arith)
   wanting room words cells low g u e a c d s (few_cells l) = by_different u s (omega arith)
 
-module _ (k : Book) (sound : SoundBook k) where
-  pub up_not_down : (i : ℕ) → i < length (told k).rules → (GoesDown k i → ⊥) → AllDown (rank (told k).ranks) (told k).rules → ⊥
-  up_not_down i l n d = n (d i _ (is_rule k sound i l))
+-- a rule that does not go down
+pub up_not_down : (k : Book) (i : ℕ) → i < length (told k).rules → (GoesDown k i → ⊥) →
+    AllDown (rank (told k).ranks) (told k).rules → ⊥
+up_not_down k i l n d = n (d i _ (is_rule k (sound_book_in k) i l))
 
-  -- the parts, as a program has them
-  module _ (ps : List ℕ) (e : ps ≡ (told k).parts) where
-    pub few_parts : FewParts ps
-    few_parts = subst FewParts (sym e)
-        (book_parts k.words.now (told k) sound.reads (told k).parts (sym (head_of k.words.now (told k) sound.reads).parts))
+-- the parts, as a program has them
+module _ (k : Book) (ps : List ℕ) (e : ps ≡ (told k).parts) where
+  pub few_parts : FewParts ps
+  few_parts =
+      let reads = (sound_book_in k).reads in
+      subst FewParts (sym e) (book_parts k.words.now (told k) reads (told k).parts (sym (head_of k.words.now (told k) reads).parts))
 
-    pub row_here : (ts : List ℕ) (t : Term) → Of (told k).parts ts t → RowOf ps ts t
-    row_here ts t o = record {
-      written = o.written;
-      fits = subst (λ (qs : List ℕ). Fits qs t) (sym e) (over_fits (told k).parts SmallLetter t o.fits);
-    }
+  pub row_here : (ts : List ℕ) (t : Term) → Of (told k).parts ts t → RowOf ps ts t
+  row_here ts t o = record {
+    written = o.written;
+    fits = subst (λ (qs : List ℕ). Fits qs t) (sym e) (over_fits (told k).parts SmallLetter t o.fits);
+  }
 
-  module _ (down : AllDown (rank (told k).ranks) (told k).rules) (ts : List ℕ) (t : Term) (of : Of (told k).parts ts t)
-      (w : Work) (b : Store) (r : Roots) (none : w.store.count ≡ 0) (bare : w.roots.top ≡ 0)
-      (read : Read w.store w.roots t b r (Ok tt)) where
+-- what is known once a term's row is read into an empty store; x says whether there was space
+pub record Loading (k : Book) (ts : List ℕ) (w : Work) (b : Store) (r : Roots) (x : Result (Unit {0}) Full) : Type 0 where
+  pub down : AllDown (rank (told k).ranks) (told k).rules
+  pub term : Term
+  pub of : Of (told k).parts ts term
+  pub none : w.store.count ≡ 0
+  pub bare : w.roots.top ≡ 0
+  pub read : Read w.store w.roots term b r x
+
+pub loading : (k : Book) (ts ps : List ℕ) (w : Work) (b : Store) (r : Roots) (x : Result (Unit {0}) Full) →
+    AllDown (rank (told k).ranks) (told k).rules → ((t : Term) × Of (told k).parts ts t) →
+    ((w.store.count ≡ 0) × (w.roots.top ≡ 0)) → ps ≡ (told k).parts →
+    ((t : Term) → RowOf ps ts t → Read w.store w.roots t b r x) → Loading k ts w b r x
+loading k ts ps w b r x down (t, of) (none, bare) e reads =
+    record { down = down; term = t; of = of; none = none; bare = bare; read = reads t (row_here k ps e ts t of) }
+
+module _ (k : Book) (ts : List ℕ) (w : Work) (b : Store) (r : Roots) where
+  pub not_read : (x : Full) → Loading k ts w b r (Err x) → (n : ℕ) → Ample n w → Outgrown (told k) ts n
+  not_read x d n m = unread (told k) ts d.term d.of n w b r d.bare m x d.read
+
+  module _ (d : Loading k ts w b r (Ok tt)) where
     -- with the term's row read
     abbrev loaded : Work
     loaded = record { store = b; roots = r; frames = w.frames }
 
-    held_first : held b r 0 ≡ t
-    held_first = ap (λ (j : ℕ). held b r j) (sym bare) ∙ read.roots.term
+    held_first : held b r 0 ≡ d.term
+    held_first = ap (λ (j : ℕ). held b r j) (sym d.bare) ∙ d.read.roots.term
 
     top_one : r.top ≡ 1
-    top_one = omega (arith, read.roots.top)
+    top_one = omega (arith, d.bare, d.read.roots.top)
 
-    held_top : held b r (r.top - 1) ≡ t
+    held_top : held b r (r.top - 1) ≡ d.term
     held_top = let z : r.top - 1 ≡ 0 = omega (arith, top_one) in ap (λ (j : ℕ). held b r j) z ∙ held_first
 
     nothing_told : Honest (told k).rules w.store
     nothing_told = record {
-      flags = λ i l. absurd (omega arith);
-      inside = λ i l. absurd (omega arith);
-      steps = λ i l. absurd (omega arith);
-      done = λ i l. absurd (omega arith);
+      flags = λ i l. absurd (omega (arith, d.none));
+      inside = λ i l. absurd (omega (arith, d.none));
+      steps = λ i l. absurd (omega (arith, d.none));
+      done = λ i l. absurd (omega (arith, d.none));
     }
 
     pub startable : Startable k loaded
     startable = record {
-      down = down;
-      honest = honest_carried (told k).rules w.store b nothing_told read.carried;
-      inside = read.roots.inside;
+      down = d.down;
+      honest = honest_carried (told k).rules w.store b nothing_told d.read.carried;
+      inside = d.read.roots.inside;
       some = omega (arith, top_one);
-      fits = subst (Fits (told k).parts) (sym held_top) (over_fits (told k).parts SmallLetter t of.fits);
+      fits = subst (Fits (told k).parts) (sym held_top) (over_fits (told k).parts SmallLetter d.term d.of.fits);
     }
 
-    pub stopped : (n : ℕ) (v : Work) (e : NoRoom) → Ample n w → Normalized k loaded v (Err e) → Outgrown (told k) ts n
-    stopped n v e m x =
+    pub stopped : (v : Work) (e : NoRoom) → Normalized k loaded v (Err e) → (n : ℕ) → Ample n w → Outgrown (told k) ts n
+    stopped v e x n m =
         let (u, s, want) = x.result.1 in
-        wanting (told k) ts t of n b.room (length w.frames.words.now) (length r.cells.now) (r.top - 1) (λ j. held b r j) u
-        (omega (arith, top_one)) (omega (arith, m.slots, read.room)) m.words (omega (arith, m.cells, read.roots.long))
+        wanting (told k) ts d.term d.of n b.room (length w.frames.words.now) (length r.cells.now) (r.top - 1) (λ j. held b r j) u
+        (omega (arith, top_one)) (omega (arith, m.slots, d.read.room)) m.words (omega (arith, m.cells, d.read.roots.long))
         (subst (λ (x : Term). Steps (told k).rules x u) held_top s) want
 
-    pub cells_long : (n : ℕ) (v : Work) → Ample n w → Normalized k loaded v (Ok tt) → 6 * n + 256 ≤ length v.roots.cells.now
-    cells_long n v m x = omega (arith, m.cells, read.roots.long, x.cells)
+    module _ (v : Work) (x : Normalized k loaded v (Ok tt)) where
+      pub cells_long : (n : ℕ) → Ample n w → 6 * n + 256 ≤ length v.roots.cells.now
+      cells_long n m = omega (arith, m.cells, d.read.roots.long, x.cells)
 
-    module _ (v : Work) (n : Normalized k loaded v (Ok tt)) where
       pub one_root : v.roots.top ≡ 1
-      one_root = n.result.0 ∙ top_one
+      one_root = x.result.0 ∙ top_one
 
       pub normal : NormalForm (told k) ts (held v.store v.roots 0)
       normal =
           let z : r.top - 1 ≡ 0 = omega (arith, top_one) in
-          let s = subst (λ (x : Term). Steps (told k).rules x (held v.store v.roots (r.top - 1))) held_top n.result.1 in
+          let s = subst (λ (y : Term). Steps (told k).rules y (held v.store v.roots (r.top - 1))) held_top x.result.1 in
           record {
-            term = t;
-            of = of;
-            steps = subst (λ (j : ℕ). Steps (told k).rules t (held v.store v.roots j)) z s;
-            done = subst (λ (j : ℕ). Done (told k).rules (held v.store v.roots j)) z n.result.2;
+            term = d.term;
+            of = d.of;
+            steps = subst (λ (j : ℕ). Steps (told k).rules d.term (held v.store v.roots j)) z s;
+            done = subst (λ (j : ℕ). Done (told k).rules (held v.store v.roots j)) z x.result.2;
           }
 
 -- a row that can't be written

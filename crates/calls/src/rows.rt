@@ -33,9 +33,7 @@ fn in_words(book: &Book, term: &[u32], work: &mut [u32], out: &mut [u32]) -> Res
     ensures { WordsAnswer (told book.now) term.now (length work.old) (length out.old)
         out.new result }
 {
-    let Some(mut work) = share_out(work) else {
-        return Err(Refusal::Few);
-    };
+    let mut work = share_out(work).ok_or(Refusal::Few)?;
     through(book, term, &mut work, out)
 }
 
@@ -49,9 +47,7 @@ pub fn answer(
     ensures { Answers words.now term.now (length work.old) (length out.old)
         out.new result }
 {
-    let Some(book) = Book::read(words) else {
-        return Err(Refusal::NoBook);
-    };
+    let book = Book::read(words).ok_or(Refusal::NoBook)?;
     if let Some(i) = first_up(&book) {
         return Err(Refusal::Up(i));
     }
