@@ -18,7 +18,8 @@ pub enum Refusal {
     Few,
 }
 
-// An answer's number, and the number that comes with it. Stays numbers: it goes to C.
+// An answer's number, and the number that comes with it.
+// Stays numbers: it goes to C.
 #[repr(C)]
 #[derive(Clone, Copy)]
 pub struct Outcome {

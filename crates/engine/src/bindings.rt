@@ -20,6 +20,7 @@ impl Bindings {
     }
 
     // Binds a letter to a place, unless it is bound to another.
+    // Stays a bool, as that of a set's `insert`: there is no more to say of a letter that is bound to another place.
     pub fn bind(&mut self, x: u32, q: Place) -> bool
         requires { x < 32 }
         ensures { BoundNow self.old x q self.new result }

@@ -117,6 +117,7 @@ impl<'a> Parser<'a> {
         ensures { vec_len row.new ≤ vec_len row.old + 2 * limits.symbols }
     {
         let mut open = Vec::new(self.cursor.heap);
+        // Stays a counted loop: it ends with the term, or at the limit of its symbols.
         for _turn in 0..limits.symbols {
             match self.symbol(row, limits.letters)? {
                 Some(sign) => open.push(sign)?,
