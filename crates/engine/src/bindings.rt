@@ -1,4 +1,5 @@
 // What is put for letters.
+// Stays in the contracts that a letter is below 32: it is a fact of an index.
 ghost use Rattle.std.specs.Prelude.{◌≡◌, ◌<◌, length, replicate, None};
 ghost use Rattle.engine.specs.Matching.{bound, BoundNow};
 

@@ -93,6 +93,7 @@ impl<'a> Parser<'a> {
     }
 
     // After a whole term: takes the closing brackets of the signs that end with it; whether another part comes then.
+    // Stays a bool in the Result: it answers whether another part comes.
     fn close(&mut self, open: &mut Vec<Open<'a>>) -> Result<bool, Error> {
         while let Some(Open { sign, left }) = open.pop() {
             if left > 0 {

@@ -44,6 +44,7 @@ impl<'a> Printer<'a> {
     }
 
     // After a whole term: closes the signs that end with it; whether another part comes then.
+    // Stays a bool in the Result: it answers whether another part comes.
     fn add_end(&mut self, open: &mut Vec<u32>) -> Result<bool, AllocError> {
         while let Some(left) = open.pop() {
             if left > 0 {
