@@ -15,6 +15,7 @@ pub use program::{Program, Stopped, run};
 pub const MOST_WORK: usize = 851_968;
 
 // Where a text comes from.
+// Stays an enum: the standard input is an input too, and that none is named is told by an Option around it.
 #[derive(Clone, Copy, PartialEq, Eq)]
 pub enum Input<'a> {
     Stdin,
@@ -112,6 +113,7 @@ fn work_words(argument: Option<&String>) -> Result<usize, Refusal<'_>>
     }
 }
 
+// Stays with the program as a parameter, here and below: it says how many files there may be, and all else is the same.
 impl<'a> Options<'a> {
     // Takes one more file, if the program has use for it.
     fn add_file(&mut self, program: Program, word: &'a str) -> Result<(), Refusal<'a>>

@@ -3,6 +3,7 @@ ghost use Rattle.std.specs.Prelude.{◌≡◌, ℕ, ◌+◌, ◌*◌, ◌<◌, �
 ghost use Rattle.books.specs.Indexing.{Indexed, top_word};
 
 // For each sign the first rule with that top sign, and for each rule the next one with the same.
+// Stays two arrays: a book has at most 32 signs and 64 rules, and no heap is used here.
 #[derive(Clone, Copy)]
 pub struct Index {
     pub(crate) first: [Option<usize>; 32],
@@ -35,6 +36,7 @@ pub fn index_rules(words: &[u32], starts: &[usize; 257], equations: usize, rules
 {
     let mut first = [None; 32];
     let mut next = [None; 64];
+    // Stays a loop over numbers: a rule's number is what is written.
     for i in (0..rules).rev() {
         let f = words[starts[2 * (equations + i)] + 1] as usize;
         if f < 32 {

@@ -25,6 +25,7 @@ pub struct Sides {
     pub end: usize,
 }
 
+// Stays in the contracts that there is a rule or an equation i: it is a fact of an index.
 impl<'a> Book<'a> {
     ghost use Rattle.books.specs.Books.{told, rule_in, equation_in, RuleAt, EquationAt, RowRead};
 

@@ -3,6 +3,7 @@ ghost use Rattle.std.specs.Prelude.{◌≡◌, ◌^◌, ◌<◌, IfSome};
 ghost use Rattle.books.specs.Reading.{allowed, Asks, SymbolAt, TermsEnd, TermEnd};
 
 // Which letters a term may have: those below 16, or any.
+// Stays a parameter of what reads terms: it says which letters are allowed, and the steps are the same.
 #[derive(Clone, Copy, PartialEq, Eq, Debug)]
 pub enum Letters {
     Small,
@@ -41,6 +42,7 @@ impl Symbol {
 }
 
 // The symbol at a place of a row.
+// Stays words with a place, here and below: sides and ways stand in the middle of a row, and the place where they end is told.
 pub fn symbol_at(words: &[u32], at: usize) -> Option<Symbol>
     ensures { SymbolAt words.now at result }
 {
@@ -52,6 +54,7 @@ pub fn symbol_at(words: &[u32], at: usize) -> Option<Symbol>
 }
 
 // Where `count` terms end that start at a place of a row.
+// Stays a signature beside the words: terms are read by it before there is a book.
 pub fn terms_end(
     letters: Letters,
     parts: &[u32],

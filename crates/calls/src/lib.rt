@@ -11,6 +11,7 @@ use crate::rows::answer;
 use crate::types::Outcome;
 
 // Writes the row of the normal form of a term. The work words may hold anything, and hold nothing of use afterwards.
+// Stays slices side by side: they come from C.
 #[unsafe(no_mangle)]
 pub extern "C" fn normal_form(
     book: &[u32],

@@ -1,4 +1,5 @@
 // What is put for letters.
+// Stays in the contracts that a letter is below 32: it is a fact of an index.
 ghost use Rattle.std.specs.Prelude.{◌≡◌, ◌<◌, length, replicate, None};
 ghost use Rattle.engine.specs.Matching.{bound, BoundNow};
 
@@ -20,6 +21,7 @@ impl Bindings {
     }
 
     // Binds a letter to a place, unless it is bound to another.
+    // Stays a bool, as that of a set's `insert`: there is no more to say of a letter that is bound to another place.
     pub fn bind(&mut self, x: u32, q: Place) -> bool
         requires { x < 32 }
         ensures { BoundNow self.old x q self.new result }

@@ -6,6 +6,7 @@ use crate::types::{Frame, Frames};
 use store::Place;
 
 // The word by which a frame remembers a place: one more than its number. 0 is for none, and for a place too large for a word.
+// Stays a number with 0 for none: a frame lies in lent words, and this is one of its four.
 fn asked_word(asked: Option<Place>) -> u32
     ensures { WordFor asked result }
 {

@@ -1,4 +1,6 @@
 // Matching a pattern, which is a side of an equation or a rule, with a term.
+// Stays in the contracts that places are inside the store: it relates them to a store that grows, and they don't hold it.
+// Stays a store beside what is bound: matching reads the one and writes the other, and building does the reverse.
 ghost use Rattle.std.specs.Prelude.{◌≡◌, ℕ, ◌*◌, ◌<◌, ◌≤◌, List, length};
 ghost use Rattle.rewriting.specs.Terms.{Term};
 ghost use Rattle.store.specs.Stores.{term_in};
@@ -9,6 +11,7 @@ use books::words::{Symbol, symbol_at};
 use store::{Place, Store};
 
 // Matches the next pending place with the symbol at a place of the pattern.
+// Stays a bool: that the pattern doesn't fit here is all there is to say.
 fn match_symbol(
     pattern: &[u32],
     at: usize,
@@ -30,8 +33,7 @@ fn match_symbol(
 
 // Binds the letters of a pattern, so that it becomes the term at p, as far as they are not bound yet; or says that nothing put for them,
 // as far as they are bound, does that.
-// Stays a bool with what is bound behind a reference: by value half a kilobyte is copied for each rule that is tried, which makes a run
-// that counts down a quarter longer.
+// Stays a bool with what is bound behind a reference: copying it for each rule that is tried makes a run a quarter longer.
 pub fn bind_pattern(pattern: &[u32], store: &Store, p: Place, bindings: &mut Bindings) -> bool
     requires pattern { (p.0 < store.now.count) × (SomePattern pattern.now store.now p) }
     requires bindings { (length bindings.old.at ≡ 32) × (AllInside store.now bindings.old) }

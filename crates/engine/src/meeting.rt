@@ -1,4 +1,8 @@
 // Two terms compared by their normal forms.
+// Stays a book beside the work words: it is only read, and a struct of both would have to say in each clause that it stays.
+// Stays in the contracts that what the store notes is true by the book's rules: it relates two values.
+// Stays in the contracts how many roots there are: they are two only before a comparison, and none only after it.
+// Stays in the contracts how ample the work words are: it is said for each number that suits, and not for one.
 ghost use Rattle.std.specs.Prelude.{ℕ};
 ghost use Rattle.store.specs.Roots.{HasRoots};
 ghost use Rattle.engine.specs.Normal.{root_term};

@@ -39,6 +39,7 @@ impl Work<'_> {
                     self.roots.stack(low, v);
                     return Ok(());
                 }
+                // Stays without `?`: the root is taken away before the refusal is handed on.
                 Err(e) => {
                     self.roots.truncate(low);
                     return Err(e);

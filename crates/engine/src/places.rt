@@ -37,6 +37,7 @@ impl<const N: usize> Places<N> {
     }
 
     // The parts of the sign at a place, the first one last.
+    // Stays beside the store's: that one fills roots and may refuse, and this one fills places and may not.
     fn push_parts(&mut self, store: &Store, p: Place, n: usize)
         requires parts { (p.0 < store.now.count) × ((arity_in store.now p.0 ≡ n) × (n ≤ 4)) }
         requires n_bound { self.old.len + n ≤ N }
@@ -50,6 +51,7 @@ impl<const N: usize> Places<N> {
     }
 
     // The parts of the sign at a place are to be matched next, if the sign there is f.
+    // Stays a bool: a sign is f or is another, and that is all there is to say.
     pub fn open(&mut self, store: &Store, p: Place, f: u32) -> bool
         requires inside { p.0 < store.now.count }
         requires len_bound { self.old.len + 4 ≤ N }
@@ -78,6 +80,7 @@ impl<const N: usize> Places<N> {
     }
 
     // Takes the last n places, to be the parts of a sign.
+    // Stays an array, of which the first n count: a slot has cells for four parts.
     pub fn take(&mut self, n: usize) -> [Place; 4]
         requires { (n ≤ 4) × ((n ≤ self.old.len) × (self.old.len ≤ N)) }
         ensures { Taken self.old n result self.new }

@@ -47,6 +47,7 @@ impl Work<'_> {
         if !are_terms(book, left, right) {
             return None;
         }
+        // Stays without `?`: the roots are taken away before the refusal is handed on.
         if let Err(e) = self.read_rows(book, left, right) {
             self.roots.truncate(0);
             return Some(Err(e));

@@ -1,4 +1,5 @@
 // Rewriting at the top of a term, by the first rule that matches.
+// Stays in the contracts that the rules can be used at p: it relates a book, a store and a place, which are lent apart.
 ghost use Rattle.std.specs.Prelude.{◌+◌, ◌<◌, ◌≤◌, length};
 ghost use Rattle.store.specs.Stores.{term_in};
 ghost use Rattle.books.specs.Books.{told, rule_in};
@@ -12,6 +13,7 @@ use books::Book;
 use store::{Node, Place, Store};
 
 // Matches the left side of rule i with the term at p, whose top sign is f. Most rules fail at that sign already.
+// Stays a bool with what is bound behind a reference, as at `bind_pattern`.
 fn match_rule(
     book: &Book,
     i: usize,
@@ -36,6 +38,7 @@ fn find_rule(book: &Book, store: &Store, p: Place, bindings: &mut Bindings) -> O
     requires { Rewritable book.now store.now p }
     ensures { RuleFound book.now store.now p bindings.new result }
 {
+    // Stays `let .. else`: what stands at a place is an enum with data, and no Option.
     let Node::Sign(f, _) = store.view(p) else {
         return None;
     };

@@ -38,6 +38,7 @@ impl Work<'_> {
         let top = self.roots.top;
         self.frames.forget();
         self.roots.stack(top, p);
+        // Stays without `?`: the root is taken away before the refusal is handed on.
         if let Err(full) = self.store.reserve(&mut self.roots, 33) {
             self.roots.truncate(top);
             return Err(NoRoom::from(full));

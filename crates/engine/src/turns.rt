@@ -1,4 +1,6 @@
 // Turns of the machine that brings terms to normal form.
+// Stays in the contracts that a turn can be taken: it relates a book, the work words and a focus, and each turn changes all but the book.
+// Stays in the contracts that there is space for a turn: it is so only after it was seen to, and the turn uses it up.
 ghost use Rattle.std.specs.Prelude.{◌≡◌, ℕ, ◌+◌, ◌-◌, ◌*◌, ◌<◌, ◌≤◌, length};
 ghost use Rattle.rewriting.specs.Rules.{Done, Steps};
 ghost use Rattle.rewriting.specs.Machine.{Still};
@@ -72,6 +74,7 @@ fn frame_part(roots: &Roots, from: usize, n: usize, v: Place, k: usize) -> Place
 }
 
 // The places of a frame's parts: n roots from one on, and v.
+// Stays an array, of which the first n + 1 count: a slot has cells for four parts.
 fn gather_parts(roots: &Roots, from: usize, n: usize, v: Place) -> [Place; 4]
     requires { (n ≤ 3) × (HasRoots roots.now.cells.now (from + n)) }
     ensures { PartsGathered roots.now from n v result }

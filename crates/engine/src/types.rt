@@ -2,6 +2,7 @@
 use store::Place;
 
 // What is put for letters: for each of 32 a place, or nothing yet.
+// Stays an array in a struct by value: the project keeps this form, and no heap is used here.
 #[derive(Clone, Copy)]
 pub struct Bindings {
     pub at: [Option<Place>; 32],
@@ -32,6 +33,7 @@ pub struct Frame {
 }
 
 // A stack of frames in lent words, four words each. Those below `fresh` have forgotten what they asked for.
+// Stays words with a depth: the words are lent, and no heap is used here.
 #[derive(Drop)]
 pub struct Frames<'a> {
     pub words: &'a mut [u32],

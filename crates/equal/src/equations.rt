@@ -29,6 +29,7 @@ pub fn first_lost(book: &Book, work: &mut Work) -> Result<Option<usize>, NoRoom>
     ensures idle { LeftIdle book.now work.old work.new }
     ensures result { (n : ℕ) → AmpleFor book.now n work.old → EquationsSay book.now n result }
 {
+    // Stays a loop over numbers: an equation's number is the answer, and want of room is handed on.
     for i in 0..book.layout.equations() {
         let meet = sides_meet(book, i, work)?;
         if !meet {

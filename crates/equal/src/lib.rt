@@ -21,6 +21,7 @@ pub use types::{Judged, Told};
 pub use words::{too_few, too_few_with_terms};
 
 // Whether a book settles its equations, by its words and those of its ways; or the first thing that fails.
+// Stays slices side by side, in both calls: callers lend each by itself.
 pub fn judge(book: &[u32], ways: &[u32], work: &mut [u32]) -> Judged
     ensures { JudgedPost book.now ways.now (length work.old) result }
 {

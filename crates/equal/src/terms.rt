@@ -1,4 +1,5 @@
 // Comparing terms by a book that settles its equations.
+// Stays two slices side by side: they are what is compared.
 ghost use Rattle.std.specs.Prelude.{◌≡◌, ℕ, ◌≤◌, length};
 ghost use Rattle.rewriting.specs.Theorems.{IsSettled};
 ghost use Rattle.books.specs.Books.{told};

@@ -1,4 +1,5 @@
 // The answers.
+// Stays two enums of listed answers: the project keeps them and their names.
 
 // What is said of a book: it settles its equations; or the first thing that fails; or that there are too few words to tell.
 #[derive(Clone, Copy, Debug, PartialEq, Eq)]

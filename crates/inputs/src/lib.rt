@@ -95,6 +95,7 @@ impl fmt::Display for Complaint<'_> {
 }
 
 // Tells on the standard error why nothing was read. Where that fails too, the program stops all the same.
+// Stays with the program as a parameter: it is only a name that is told.
 pub fn complain(rt: &HostRuntime, program: Program, input: Input<'_>, trouble: Trouble) -> Stopped {
     let complaint = Complaint {
         program,
@@ -120,6 +121,7 @@ fn read_input(rt: &HostRuntime, input: Input<'_>) -> io::Result<Vec<u8>> {
 }
 
 // What the bytes of a file write.
+// Stays a bool that chooses: the command line says in which form the book comes, and it is asked only here.
 pub fn source_of(heap: Global, bytes: &[u8], rows: bool) -> Result<Source, Trouble> {
     if bytes.len() > MOST_TEXT {
         return Err(Trouble::TooLong);

@@ -43,6 +43,7 @@ impl<'a> Cursor<'a> {
     }
 
     // Takes a token of this kind, if it comes next.
+    // Stays bools, here and below: each answers whether the token came.
     pub fn take(&mut self, kind: Kind) -> bool
         ensures found { IsTrue result ↔ (self.old.token.kind ≡ kind) }
         ensures taken { IsTrue result → Advances self.old self.new }
@@ -107,6 +108,7 @@ impl<'a> Cursor<'a> {
     pub(crate) fn add_numbers(&mut self, row: &mut Vec<u32>, most: usize) -> Result<(), AllocError>
         ensures { vec_len row.new ≤ vec_len row.old + most }
     {
+        // Stays a counted loop: it ends with the numbers, or when `most` of them are taken.
         for _turn in 0..most {
             let Some(n) = self.token.number() else {
                 return Ok(());

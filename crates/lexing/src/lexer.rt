@@ -1,4 +1,5 @@
 // The tokens of the readable form, and where they stand in the text.
+// Stays a text with a place: where a token stands in the whole text is what faults tell.
 ghost use Rattle.std.specs.Prelude.{◌≡◌, ◌+◌, ◌^◌, ◌<◌, ◌≤◌, ◌↔◌, ◌||◌, IsTrue, length, nat_le, nat_lt, not};
 ghost use Rattle.lexing.specs.declared.lexer.Kind.TheVariants.{Name};
 ghost use Rattle.lexing.specs.Tokens.{nameByte, kind, Extent, TokenOf};

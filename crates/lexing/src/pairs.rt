@@ -38,6 +38,7 @@ impl Pair {
 }
 
 // Reads the two rows of a line. Any words will do.
+// Stays beside `parse_pair` of notation: how a term is read, what stands between, and how one too long is known all differ.
 pub fn read_pair(heap: Global, line: &[u8], pair: &mut Pair) -> Result<Line, Error>
     ensures one { vec_len pair.new.one ≤ MOST_TERM }
     ensures other { vec_len pair.new.other ≤ MOST_TERM }

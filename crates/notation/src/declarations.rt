@@ -1,4 +1,5 @@
 // The sections of names: signs, with their parts and ranks, and letters.
+// Stays loops that count by hand: each ends with the text, and the count is a sign's number or is held against the most.
 ghost use Rattle.std.specs.Prelude.{◌≤◌, IfOk};
 
 use crate::parser::entry_comes;

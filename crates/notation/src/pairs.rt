@@ -53,6 +53,7 @@ pub fn parse_pair(
     if cursor.token.is(Kind::End) {
         return Ok(Line::Blank);
     }
+    // Stays a match: where a term became too long, its error is an answer.
     match (Parser { cursor, signature }).pair(pair) {
         Ok(()) => Ok(Line::Pair),
         Err(_) if pair.one.len() == MOST_TERM || pair.other.len() == MOST_TERM => Ok(Line::Long),

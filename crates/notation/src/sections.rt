@@ -1,4 +1,5 @@
 // The sections that follow the names: equations, and rules with their ways.
+// Stays loops that count by hand: each ends with the text, and the count is what is told.
 ghost use Rattle.std.specs.Prelude.{◌+◌, ◌*◌, ◌≤◌, IfOk, vec_len};
 
 use crate::parser::{Parser, entry_comes};
@@ -33,6 +34,7 @@ pub(crate) struct Sides {
 
 impl Parser<'_> {
     // Takes two sides with the mark between them.
+    // Stays with the mark as a parameter: it is what is expected, and the steps are the same.
     fn sides(&mut self, row: &mut Vec<u32>, mark: Kind, expected: &'static str) -> Result<(), Error>
         ensures { vec_len row.new ≤ vec_len row.old + 128 }
     {

@@ -93,6 +93,7 @@ impl<'a> Parser<'a> {
     }
 
     // After a whole term: takes the closing brackets of the signs that end with it; whether another part comes then.
+    // Stays a bool in the Result: it answers whether another part comes.
     fn close(&mut self, open: &mut Vec<Open<'a>>) -> Result<bool, Error> {
         while let Some(Open { sign, left }) = open.pop() {
             if left > 0 {
@@ -117,6 +118,7 @@ impl<'a> Parser<'a> {
         ensures { vec_len row.new ≤ vec_len row.old + 2 * limits.symbols }
     {
         let mut open = Vec::new(self.cursor.heap);
+        // Stays a counted loop: it ends with the term, or at the limit of its symbols.
         for _turn in 0..limits.symbols {
             match self.symbol(row, limits.letters)? {
                 Some(sign) => open.push(sign)?,

@@ -6,6 +6,7 @@ use crate::terms::{Comparison, Head, Parts};
 
 // Stays recursion in a cycle: the order is defined so, and goes no deeper than a side's 32 symbols.
 // Stays in each contract, that the table is truthful: in one struct with it each would have to say instead that the sides stay.
+// Stays bools with `let .. else`: each function answers yes or no, and the table beside it only remembers answers.
 impl Comparison<'_> {
     // Whether the term at place k is greater than the one at place j, by the table if it is known there.
     #[cycle(all_less_compare_greater_precedes_some_at_least)]

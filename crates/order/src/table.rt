@@ -3,6 +3,7 @@ ghost use Rattle.std.specs.Prelude.{◌≡◌, replicate, None};
 ghost use Rattle.order.specs.Tables.{Noted, Recalled};
 
 // For each of 64 places on the left and of 64 on the right whether the term at the first is greater, if it is known.
+// Stays an array for all pairs: no heap is used here.
 #[derive(Clone, Copy)]
 pub struct Table {
     answers: [[Option<bool>; 64]; 64],

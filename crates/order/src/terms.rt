@@ -17,6 +17,7 @@ pub struct Comparison<'a> {
 }
 
 // Some terms, one after the other: how many, and the place where the first starts.
+// Stays a count and a place: the table is looked up by places.
 #[derive(Clone, Copy)]
 pub struct Parts {
     pub count: usize,

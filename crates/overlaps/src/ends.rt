@@ -36,6 +36,7 @@ pub fn one_end(book: &Book, work: &mut Work) -> Result<bool, NoRoom>
     ensures idle { LeftIdle book.now work.old work.new }
     ensures result { (n : ℕ) → Ample n work.old → OneEndSays book.now n result }
 {
+    // Stays nested loops over numbers, left by a label: the project keeps this form here.
     let rules = book.layout.rules();
     let mut found = true;
     'pairs: for i in 0..rules {

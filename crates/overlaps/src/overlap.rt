@@ -42,6 +42,7 @@ pub fn overlap_at(book: &Book, i: usize, j: usize, k: usize) -> Option<Overlap>
 }
 
 // The row with a hole, a letter, for the words from one place up to another.
+// Stays a row with two places: they divide it in three, and the middle is left out.
 pub fn with_hole(row: &[u32], from: usize, to: usize) -> Row
     requires { (from + 2 ≤ to) × ((to ≤ length row.now) × (length row.now ≤ 64)) }
     ensures { result.items ≡ holed row.now from to }

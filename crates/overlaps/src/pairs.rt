@@ -1,4 +1,5 @@
 // Critical pairs: the two results where two rules meet.
+// Stays in the contracts that an overlap stands in the book: it relates two values, and the overlap doesn't hold the book.
 ghost use Rattle.std.specs.Prelude.{◌+◌, ◌≤◌};
 ghost use Rattle.engine.specs.Meeting.{Working};
 ghost use Rattle.overlaps.specs.Pairs.{AllGiven, PairFound, ResultsBuilt, UnifierFound};

@@ -10,6 +10,7 @@ use std::alloc::{AllocError, Global};
 mod printer;
 
 // The book, with its ways.
+// Stays a heap beside the book: the text lies where the caller says.
 pub fn book_text(heap: Global, book: &Book) -> Result<String, AllocError> {
     let mut printer = Printer::new(heap, book);
     printer.add_book()?;
@@ -17,6 +18,7 @@ pub fn book_text(heap: Global, book: &Book) -> Result<String, AllocError> {
 }
 
 // Of so many equations or rules, counted with all from `first`, the one with this number; nothing where there is none.
+// Stays with the mark as a parameter: it is text that is written.
 fn pair_text(
     heap: Global,
     book: &Book,

@@ -1,4 +1,5 @@
 // Terms, equations, rules and books in the readable form.
+// Stays loops over numbers: a book gives its equations and rules by number, and a way says how many terms it has.
 ghost use Rattle.std.specs.Prelude.{◌≡◌, ◌≤◌, [], IfOk, string_bytes};
 
 use books::words::{Symbol, symbol_at};
@@ -43,6 +44,7 @@ impl<'a> Printer<'a> {
     }
 
     // After a whole term: closes the signs that end with it; whether another part comes then.
+    // Stays a bool in the Result: it answers whether another part comes.
     fn add_end(&mut self, open: &mut Vec<u32>) -> Result<bool, AllocError> {
         while let Some(left) = open.pop() {
             if left > 0 {
@@ -61,6 +63,7 @@ impl<'a> Printer<'a> {
     {
         let mut open = Vec::new(self.heap);
         let mut end = at;
+        // Stays a loop over places: the place after the term is what is told.
         while let Some(symbol) = symbol_at(words, end) {
             end += 2;
             let parts = self.add_symbol(symbol)?;
@@ -75,6 +78,7 @@ impl<'a> Printer<'a> {
     }
 
     // Adds the two sides of the equation or rule with this number, the rules counted after the equations, with a mark between them.
+    // Stays with the mark as a parameter: it is text that is written.
     pub(crate) fn add_sides(&mut self, number: usize, mark: &str) -> Result<(), AllocError> {
         let words = self.book.words.as_slice();
         let middle = self.add_term(words, self.book.layout.start(number.saturating_mul(2)))?;

@@ -1,4 +1,6 @@
 // Chains of slots by hash: finding the slot of a key, and adding one.
+// Stays a table of its own: its slots and buckets lie in lent words, and no heap is used here.
+// Stays in the contracts that a key fits: its parts are below a count that the key doesn't hold.
 ghost use Rattle.std.specs.Prelude.{◌≡◌, ◌+◌, ◌<◌, ◌≤◌, true, false, None};
 ghost use Rattle.store.specs.Cells.{HasSlot};
 ghost use Rattle.store.specs.Slots.{Shared};
@@ -52,6 +54,7 @@ impl Store<'_> {
         ensures { Found self.now.words.now self.now.count key.now result }
     {
         let mut next = get(self.words, bucket(self.mask, key), LAST);
+        // Stays a while: it follows links from slot to slot, until there is none.
         while next != 0 {
             if holds(self.words, next - 1, key) {
                 return Some(next - 1);

@@ -2,6 +2,7 @@
 // pass down marks all, and one pass up moves all.
 // Stays over words, a count and a mask: until all is moved the words are no store.
 // Stays loops over numbers: slots and roots are named by numbers, and each turn reads words that it writes to.
+// Stays in the contracts that the roots are below the count: it relates them to words that are no store yet.
 ghost use Rattle.std.specs.Prelude.{◌≡◌, ℕ, ◌+◌, ◌-◌, ◌*◌, ◌<◌, ◌≤◌, length};
 ghost use Rattle.store.specs.Cells.{HasSlot};
 ghost use Rattle.store.specs.Slots.{kind_at, tag_of, arity_at, part_at, last_at, note_at, Shape, Shared};

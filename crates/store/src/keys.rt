@@ -3,6 +3,7 @@ ghost use Rattle.std.specs.Prelude.{◌≤◌};
 ghost use Rattle.store.specs.Slots.{kind_of, tag_of};
 
 // A head and the numbers of the parts' slots. The head is a number, since it is one in the slot's words.
+// Stays an array: a slot has cells for four parts, and the head says how many of them count.
 #[derive(Clone, Copy, Debug, PartialEq, Eq)]
 pub struct Key {
     pub head: usize,

@@ -1,4 +1,6 @@
 // Making terms: a term's place is found or added, and a full store is collected first.
+// Stays in the contracts that the roots are inside the store: it relates two values, and each changes by itself too.
+// Stays in the contracts that there are at most four parts: n is a plain number, which books and slots give.
 ghost use Rattle.std.specs.Prelude.{◌≡◌, ℕ, ◌+◌, ◌-◌, ◌*◌, ◌/◌, ◌^◌, ◌<◌, ◌≤◌, false, length, Some};
 ghost use Rattle.rewriting.specs.Terms.{letter, sign};
 ghost use Rattle.store.specs.Slots.{kind_of, arity_of, flag_of};
@@ -158,6 +160,7 @@ impl Store<'_> {
     }
 
     // A sign with the last n roots as parts, in their place.
+    // Stays with the order as a parameter: it says which root is which part, and the steps are the same.
     fn make_sign_by(
         &mut self,
         roots: &mut Roots,

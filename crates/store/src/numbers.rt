@@ -1,4 +1,5 @@
 // Numbers of 64 bits in lent words of 32: two words each, the low one first.
+// Stays by hand: the library makes numbers of bytes, and these are words.
 ghost use Rattle.std.specs.Prelude.{◌≡◌, ◌+◌, ◌≤◌, length};
 ghost use Rattle.store.specs.Numbers.{number_in, NumberPut};
 

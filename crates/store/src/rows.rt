@@ -1,4 +1,5 @@
 // Rows into the store and out of it, symbol by symbol.
+// Stays in the contracts that words are the row of a term over a signature: it relates two slices, which are lent.
 ghost use Rattle.std.specs.Prelude.{◌≡◌, ◌+◌, ◌-◌, ◌<◌, ◌≤◌, length};
 ghost use Rattle.rewriting.specs.Terms.{Term};
 ghost use Rattle.books.specs.Layouts.{FewParts};
@@ -59,6 +60,7 @@ impl Store<'_> {
     }
 
     // Writes the symbol of the uppermost root, and puts its parts in its place.
+    // Stays words with a place: the symbols before it are kept, and how many words there are is told.
     fn write_symbol(&self, roots: &mut Roots, out: &mut [u32], at: usize) -> Result<(), Short>
         requires { (Inside self.now roots.old) × ((0 < roots.old.top) × (at ≤ length out.old)) }
         ensures below { RootsBelow (roots.old.top - 1) roots.old roots.new }
@@ -97,6 +99,7 @@ impl Store<'_> {
         let base = roots.top;
         roots.push(p)?;
         let mut at = 0;
+        // Stays a while: the roots above `base` are a stack, and it ends with them.
         while roots.top > base {
             // Stays without `?`: the roots are cut back before the refusal is handed on.
             if let Err(short) = self.write_symbol(roots, out, at) {

@@ -22,6 +22,7 @@ pub struct Store<'a> {
 }
 
 // A stack of places in lent words: their terms are kept. After a collection any other place is another term's, or none's.
+// Stays words with a top: the words are lent, and no heap is used here.
 #[derive(Drop)]
 pub struct Roots<'a> {
     pub cells: &'a mut [u32],

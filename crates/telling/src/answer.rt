@@ -1,4 +1,5 @@
 // What is said of a pair, by a book that was judged before.
+// Stays in the contracts what judging says of the given rows: it relates an answer to rows, which are lent apart.
 ghost use Rattle.std.specs.Prelude.{◌≡◌, ◌+◌, length, ◌≢◌};
 ghost use Rattle.rewriting.specs.Answers.{Tells};
 ghost use Rattle.engine.specs.Meeting.{Ample, Working};

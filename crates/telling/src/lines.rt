@@ -10,6 +10,7 @@ pub(crate) const MOST_LINE: usize = 262_144;
 const BLOCK: usize = 32_768;
 
 // What comes next in a text. Lines are numbered from 1.
+// Stays an enum: a line that is too long is answered and passed over, so it is neither the end nor an error.
 #[derive(Clone, Copy)]
 pub(crate) enum Next<'a> {
     // a line without its end

@@ -74,6 +74,7 @@ impl<'a, R: Read + Drop> Pairs<'a, R> {
     // The next pair. Lines before it that have none are answered, if they are not blank. Since reading may take long, all answers are
     // written before.
     pub(crate) fn next(&mut self) -> Result<Option<&Pair>, Stopped> {
+        // Stays a counted loop: a text may come without end, and the count shows that the loop has one.
         for _turn in 0..u64::MAX {
             if !self.lines.is_at_hand() {
                 self.flush()?;

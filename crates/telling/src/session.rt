@@ -21,6 +21,7 @@ fn tell_each<R: Read, F: FnMut(&[u32], &[u32]) -> Told>(
     requires { F.IsAlwaysCallable tell }
 {
     let mut pairs = Pairs::new(asking, reader)?;
+    // Stays a counted loop: a text may come without end, and the count shows that the loop has one.
     for _turn in 0..u64::MAX {
         let Some(pair) = pairs.next()? else {
             break;

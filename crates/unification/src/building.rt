@@ -1,5 +1,6 @@
 // Building images, in rounds over the places from the lowest up, as long as there is one whose parts have images.
 // Stays four parameters: a struct over them would have to say in each clause that n and the classes are as before.
+// Stays bools: whether an image was built is all that the next round asks.
 ghost use Rattle.std.specs.Prelude.{◌<◌, false};
 ghost use Rattle.unification.specs.Images.{Building, Builds, BuiltAt, RoundBuilt};
 
@@ -18,6 +19,7 @@ fn build_at(store: &mut Store, n: usize, classes: &Classes, images: &mut Images,
     match store.view(p) {
         Node::Letter(_) => images.put(p, p),
         Node::Sign(f, m) => {
+            // Stays `let .. else`: where a part has no image yet, the answer is no.
             let Some(parts) = images.parts(store, classes, p, m) else {
                 return false;
             };
@@ -34,6 +36,7 @@ fn build_round(store: &mut Store, n: usize, classes: &Classes, images: &mut Imag
     ensures tells { RoundBuilt images.old n classes.now n store.new images.new result }
 {
     let mut found = false;
+    // Stays a loop over numbers: each is a place's.
     for i in 0..n {
         found |= build_at(store, n, classes, images, Place(i));
     }
@@ -46,5 +49,6 @@ pub fn build(store: &mut Store, n: usize, classes: &Classes, images: &mut Images
     ensures goes { Builds store.old images.old n classes.now store.new images.new }
     ensures tells { RoundBuilt images.old n classes.now n store.new images.new false }
 {
+    // Stays a while with no body: it ends with the first round that builds nothing.
     while build_round(store, n, classes, images) {}
 }

@@ -31,6 +31,7 @@ impl Closing<'_, '_> {
     }
 
     // The first of n parts at which the parts of two signs are in different classes.
+    // Stays beside that of `ways`: each is one `find`, and what they compare differs.
     fn first_difference(&self, p: Place, q: Place, n: usize) -> Option<usize>
         requires p { (p.0 < self.now.store.now.count) × (arity_in self.now.store.now p.0 ≡ n) }
         requires q { (q.0 < self.now.store.now.count) × (arity_in self.now.store.now q.0 ≡ n) }
@@ -45,6 +46,7 @@ impl Closing<'_, '_> {
         requires { p.0 < self.now.store.now.count }
         ensures { CheckedAt self.now.store.now self.now.classes p.0 result }
     {
+        // Stays `let .. else`: what stands at a place is an enum with data, and no Option.
         let Node::Sign(f, n) = self.store.view(p) else {
             return Ok(None);
         };
@@ -65,6 +67,7 @@ impl Closing<'_, '_> {
     fn check(&self) -> Result<Option<(Place, Place)>, Clash>
         ensures { Checked self.now.store.now self.now.classes result }
     {
+        // Stays a loop over numbers: each is a place's, and a clash is handed on.
         for i in 0..self.store.count {
             if let Some(apart) = self.check_at(Place(i))? {
                 return Ok(Some(apart));

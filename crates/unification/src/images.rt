@@ -28,12 +28,14 @@ impl Images {
     }
 
     // The images of the parts of the sign at a place, if they all are built.
+    // Stays an array, of which the first n count: a slot has cells for four parts.
     pub fn parts(&self, store: &Store, classes: &Classes, p: Place, n: usize) -> Option<[Place; 4]>
         requires place { (p.0 < store.now.count) × (p.0 < 96) }
         requires arity { (arity_in store.now p.0 ≡ n) × (n ≤ 4) }
         ensures { PartImages store.now classes.now self.now p.0 n result }
     {
         let mut parts = [Place(0); 4];
+        // Stays a loop over numbers: a part is read by its number, and one without an image ends it.
         for k in 0..n {
             parts[k] = self.get(classes.known_by(store.part(p, k)))?;
         }

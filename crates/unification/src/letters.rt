@@ -15,6 +15,7 @@ pub fn find_letters(store: &Store) -> Option<Bindings>
     ensures { LettersFound store.now result }
 {
     let mut letters = Bindings::new();
+    // Stays a loop over numbers: each is a place's.
     for i in 0..store.count {
         let Node::Letter(x) = store.view(Place(i)) else {
             continue;

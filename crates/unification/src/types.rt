@@ -4,6 +4,7 @@ ghost use Rattle.std.specs.Prelude.{◌<◌, All};
 use store::Place;
 
 // For each of 96 places its label: the place by which its class is known.
+// Stays an array, as the images below: there are at most 96 places, and no heap is used here.
 #[derive(Clone, Copy)]
 pub struct Classes {
     pub labels: [Place; 96],
@@ -11,7 +12,7 @@ pub struct Classes {
 }
 
 // For each class, by its label, the place of what becomes of its terms, once that is built.
-// Stays beside engine's bindings: they are kept by the number of a letter and bound once, and only the array is the same.
+// Stays beside engine's bindings: those go by a letter's number and are bound once, and of the methods only `new` is the same.
 #[derive(Clone, Copy)]
 pub struct Images {
     pub at: [Option<Place>; 96],

@@ -23,6 +23,7 @@ pub fn only_difference(store: &Store, p: Place, q: Place) -> Option<usize>
     if node != store.view(q) {
         return None;
     }
+    // Stays `let .. else`: what stands at a place is an enum with data, and no Option.
     let Node::Sign(_, n) = node else {
         return None;
     };

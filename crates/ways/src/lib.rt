@@ -15,6 +15,7 @@ mod tops;
 mod walk;
 
 // Whether the words are ways, one for each rule, that show that the rules follow from the equations.
+// Stays a bool: it answers a question, and the store and the roots beside it are only used on the way.
 pub fn shown<'w>(
     book: &'w Book<'w>,
     ways: &'w [u32],

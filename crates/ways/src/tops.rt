@@ -1,4 +1,5 @@
 // Equations at the top of two terms.
+// Stays in the contracts that two terms are the book's: it relates the walk to two places.
 ghost use Rattle.std.specs.Prelude.{◌<◌, length, is_some};
 ghost use Rattle.rewriting.specs.Answers.{Tells};
 ghost use Rattle.store.specs.Stores.{term_in};

@@ -1,4 +1,6 @@
 // The terms of ways, read and followed from one to the next.
+// Stays bools: each answers a question, and the roots beside it are only used on the way.
+// Stays in the contracts that a way is under way: it is so only from where the way begins to where it ends.
 ghost use Rattle.std.specs.Prelude.{◌≡◌, ◌+◌, ◌<◌, ◌≤◌, length, is_some};
 ghost use Rattle.rewriting.specs.Answers.{Tells};
 ghost use Rattle.rewriting.specs.Terms.{Term};
