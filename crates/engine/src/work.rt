@@ -6,7 +6,7 @@ use crate::types::Frames;
 use store::{Roots, Store};
 
 // Fewer words are too few.
-const LEAST: usize = 16384;
+pub const LEAST: usize = 16384;
 
 // The engine's share of lent words.
 #[derive(Drop)]

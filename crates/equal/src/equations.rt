@@ -12,7 +12,7 @@ use engine::work::Work;
 // Whether the sides of equation i meet.
 fn sides_meet(book: &Book, i: usize, work: &mut Work) -> Result<bool, NoRoom>
     requires working { (Working book.now work.old.store) × ((work.old.roots.top ≡ 0) × (i < length (told book.now).eqs)) }
-    requires by_index { (n : ℕ) × AmpleFor book.now n work.old }
+    requires room { (n : ℕ) × AmpleFor book.now n work.old }
     ensures idle { LeftIdle book.now work.old work.new }
     ensures result { (n : ℕ) → AmpleFor book.now n work.old →
         Compares book.now n (equation_in book.now i).left (equation_in book.now i).right result }
@@ -25,7 +25,7 @@ fn sides_meet(book: &Book, i: usize, work: &mut Work) -> Result<bool, NoRoom>
 // The first equation whose sides don't meet, of a book in which all that comes from one term meets.
 pub fn first_lost(book: &Book, work: &mut Work) -> Result<Option<usize>, NoRoom>
     requires working { (Working book.now work.old.store) × ((work.old.roots.top ≡ 0) × (OneEnd (told book.now))) }
-    requires by_index { (n : ℕ) × AmpleFor book.now n work.old }
+    requires room { (n : ℕ) × AmpleFor book.now n work.old }
     ensures idle { LeftIdle book.now work.old work.new }
     ensures result { (n : ℕ) → AmpleFor book.now n work.old → EquationsSay book.now n result }
 {

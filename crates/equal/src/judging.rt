@@ -12,7 +12,7 @@ use order::first_up;
 // serve for comparing its terms.
 pub fn judge_in(book: &[u32], ways: &[u32], work: &mut Work) -> Judged
     requires open_store { OpenStore work.old }
-    requires by_index { (n : ℕ) × RoomFor book.now ways.now n work.old }
+    requires room { (n : ℕ) × RoomFor book.now ways.now n work.old }
     ensures { (n : ℕ) → RoomFor book.now ways.now n work.old → JudgedIn book.now ways.now n work.old work.new result }
 {
     let Some(book) = Book::read(book) else {

@@ -25,7 +25,7 @@ fn by_ways(shown: bool) -> Judged
 // What is to be said of a book whose rules go down: the first that fails of one end, the equations and the ways.
 pub fn judge_rules(book: &Book, ways: &[u32], work: &mut Work) -> Result<Judged, NoRoom>
     requires working { (Working book.now work.old.store) × (work.old.roots.top ≡ 0) }
-    requires by_index { (n : ℕ) × AmpleWith book.now (length ways.now) n work.old }
+    requires room { (n : ℕ) × AmpleWith book.now (length ways.now) n work.old }
     ensures idle { LeftIdle book.now work.old work.new }
     ensures result { (n : ℕ) → AmpleWith book.now (length ways.now) n work.old → RulesSay book.now ways.now n (or_room result) }
 {

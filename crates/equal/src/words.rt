@@ -3,17 +3,17 @@ ghost use Rattle.std.specs.Prelude.{◌≡◌, ◌+◌};
 ghost use Rattle.rewriting.specs.Answers.{Tells};
 ghost use Rattle.equal.specs.Promises.{TooFew};
 
-// What is wanted besides 64 words for each word of the rows.
-const BASE: usize = 16_384;
+use engine::work::LEAST;
 
-// Whether there are fewer work words than are wanted for two rows of these lengths together. No sum overflows.
+// Whether there are fewer work words than the least, and 64 for each word of two rows of these lengths together. No sum overflows.
 pub fn too_few(work: usize, one: usize, other: usize) -> bool
     ensures { Tells result (TooFew work (one + other)) }
 {
-    work < BASE || (work - BASE) / 64 < one.saturating_add(other)
+    work < LEAST || (work - LEAST) / 64 < one.saturating_add(other)
 }
 
 // The same for a book, its ways and two terms.
+// Stays beside the other: it is the other at sums, and says which.
 pub fn too_few_with_terms(work: usize, book: usize, ways: usize, one: usize, other: usize) -> bool
     ensures { Tells result (TooFew work (book + (ways + (one + other)))) }
 {

@@ -13,7 +13,7 @@ use engine::work::Work;
 
 // Whether both results meet where rule j is used at symbol k of rule i's left side, if the two rules meet there.
 fn results_meet(book: &Book, i: usize, j: usize, k: usize, work: &mut Work) -> Result<bool, NoRoom>
-    requires working { (Working book.now work.old.store) × ((work.old.roots.top ≡ 0) × (((n : ℕ) × Ample n work.old))) }
+    requires working { (Working book.now work.old.store) × ((work.old.roots.top ≡ 0) × ((n : ℕ) × Ample n work.old)) }
     requires i_in_bounds { (i < length (told book.now).rules) × (j < length (told book.now).rules) }
     requires k_bound { k < size (rule_in book.now i).left }
     ensures idle { LeftIdle book.now work.old work.new }
@@ -32,7 +32,7 @@ fn results_meet(book: &Book, i: usize, j: usize, k: usize, work: &mut Work) -> R
 
 // Whether all that comes from one term meets. A rule may meet itself too.
 pub fn one_end(book: &Book, work: &mut Work) -> Result<bool, NoRoom>
-    requires { (Working book.now work.old.store) × ((work.old.roots.top ≡ 0) × (((n : ℕ) × Ample n work.old))) }
+    requires { (Working book.now work.old.store) × ((work.old.roots.top ≡ 0) × ((n : ℕ) × Ample n work.old)) }
     ensures idle { LeftIdle book.now work.old work.new }
     ensures result { (n : ℕ) → Ample n work.old → OneEndSays book.now n result }
 {

@@ -38,7 +38,7 @@ impl Given<'_> {
 
 // What is said of two terms, by a book of which judging says that it does not settle its equations, or that it can't tell.
 pub fn refused_answer(given: Given<'_>, judged: Judged, one: &[u32], other: &[u32]) -> Told
-    requires { (JudgedPost given.book.now given.ways.now given.work judged) × ((judged ≢ Settles)) }
+    requires { (JudgedPost given.book.now given.ways.now given.work judged) × (judged ≢ Settles) }
     ensures { ToldPost given.entry.book.now given.entry.ways.now one.now other.now
         given.entry.work result }
 {

@@ -40,13 +40,13 @@ fn tell_refused<R: Read>(
     given: Given<'_>,
     judged: Judged,
 ) -> Result<(), Stopped>
-    requires { (JudgedPost given.book.now given.ways.now given.work judged) × ((judged ≢ Settles)) }
+    requires { (JudgedPost given.book.now given.ways.now given.work judged) × (judged ≢ Settles) }
 {
     tell_each(
         asking,
         reader,
         |one: &[u32], other: &[u32]|
-            requires { (JudgedPost given.book.now given.ways.now given.work judged) × ((judged ≢ Settles)) }
+            requires { (JudgedPost given.book.now given.ways.now given.work judged) × (judged ≢ Settles) }
             ensures { ToldPost given.entry.book.now given.entry.ways.now one.now other.now given.entry.work result }
         { refused_answer(given, judged, one, other) },
     )

@@ -20,7 +20,7 @@ judge_in-requires c =
     let fresh = c.in-Some.ensures.1 in
     record {
       open_store = open_store s h w c.in-Some.work fresh;
-      by_index = (most_parts w, room_for s h w c.in-Some.work fresh (c.if-too_few.ensures.fails refl));
+      room = (most_parts w, room_for s h w c.in-Some.work fresh (c.if-too_few.ensures.fails refl));
     }
 
 pub returns : goal.returns

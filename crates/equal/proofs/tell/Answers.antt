@@ -24,7 +24,7 @@ judge_in-requires c =
     let fresh = c.in-Some.ensures.1 in
     record {
       open_store = open_store s h w c.in-Some.work fresh;
-      by_index = (most_parts w, room_for s h w c.in-Some.work fresh (λ few. c.if-too_few_with_terms.ensures.fails refl (omega arith)));
+      room = (most_parts w, room_for s h w c.in-Some.work fresh (λ few. c.if-too_few_with_terms.ensures.fails refl (omega arith)));
     }
 
 pub new-settled-requires : goal.new-settled-requires

@@ -13,19 +13,19 @@ pub sides_meet-requires : goal.sides_meet-requires
 sides_meet-requires c =
     let b = c.args.book.now in
     let idle = c.loop-i.invariant.0 in
-    let n = c.requires.by_index in record {
+    let n = c.requires.room in record {
       working = (
         idle.working,
         (idle.none, omega (arith, c.loop-i-test.true, c.equations-i-end.ensures, (sound_book_in b).laid.equations)),
       );
-      by_index = (n.0, ample_on b c.args.work.now c.loop-i.work idle n.0 n.1);
+      room = (n.0, ample_on b c.args.work.now c.loop-i.work idle n.0 n.1);
     }
 
 pub loop-i-preserved : goal.loop-i-preserved
 loop-i-preserved c =
     let b = c.args.book.now in
     let idle = c.loop-i.invariant.0 in
-    let n = c.requires.by_index in
+    let n = c.requires.room in
     let e = equation_in b c.loop-i.i in (
       idle_on b c.args.work.now c.loop-i.work idle c.sides_meet.new.work c.sides_meet.ensures.idle,
       kept_more b n.0 c.loop-i.i c.loop-i.invariant.1

@@ -22,10 +22,10 @@ judge_rules-requires c =
     let k = c.in-Some.book in
     let h = c.args.ways.now in
     let w = c.args.work.now in
-    let n = c.requires.by_index in
+    let n = c.requires.room in
     record {
       working = (working k (sound_book_in k) c.in_default-first_up.ensures w c.requires.open_store, c.requires.open_store.none);
-      by_index = (n.0, ample_with k h n.0 w (subst (λ (s : List ℕ). RoomFor s h n.0 w) (sym c.in-Some.ensures) n.1));
+      room = (n.0, ample_with k h n.0 w (subst (λ (s : List ℕ). RoomFor s h n.0 w) (sym c.in-Some.ensures) n.1));
     }
 
 pub returns : goal.returns

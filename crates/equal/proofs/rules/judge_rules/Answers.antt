@@ -9,7 +9,7 @@ use Rattle.equal.proofs.Verdict.{side_large, said_by_ways}
 use Rattle.equal.proofs.rules.judge_rules.Goals as goal
 
 pub one_end-requires : goal.one_end-requires
-one_end-requires c = (c.requires.working.0, (c.requires.working.1, (c.requires.by_index.0, c.requires.by_index.1.for_book.ample)))
+one_end-requires c = (c.requires.working.0, (c.requires.working.1, (c.requires.room.0, c.requires.room.1.for_book.ample)))
 
 pub returns-in_err-one : goal.returns-in_err-one
 returns-in_err-one c =
@@ -29,7 +29,7 @@ pub first_lost-requires : goal.first_lost-requires
 first_lost-requires c =
     let b = c.args.book.now in
     let idle = c.one_end.ensures.idle in
-    let n = c.requires.by_index in record {
+    let n = c.requires.room in record {
       working = (
         idle.working,
         (
@@ -37,7 +37,7 @@ first_lost-requires c =
           subst (λ (x : Bool). OneEndSays b n.0 (Ok x)) c.if-not-one.false (c.in_ok-one.ensures.result n.0 n.1.for_book.ample),
         ),
       );
-      by_index = (n.0, ample_on b c.args.work.now c.one_end.new.work idle n.0 n.1.for_book);
+      room = (n.0, ample_on b c.args.work.now c.one_end.new.work idle n.0 n.1.for_book);
     }
 
 pub returns-in_err-lost-clause-result : goal.returns-in_err-lost-clause-result
