@@ -46,17 +46,17 @@ impl Closing<'_, '_> {
         requires { p.0 < self.now.store.now.count }
         ensures { CheckedAt self.now.store.now self.now.classes p.0 result }
     {
+        let node = self.store.view(p);
         // Stays `let .. else`: what stands at a place is an enum with data, and no Option.
-        let Node::Sign(f, n) = self.store.view(p) else {
+        let Node::Sign(_, n) = node else {
             return Ok(None);
         };
         let q = self.classes.known_by(p);
-        let Node::Sign(g, m) = self.store.view(q) else {
-            unreachable()
-        };
-        if f != g || n != m {
+        if node != self.store.view(q) {
             return Err(Clash);
         }
+        // Stays `let .. else`: tried as `map`, with the parts in its closure, with a named closure and with a function for both, and
+        // no proof closes: of a closure given to an Option's `map`, its result is not known.
         let Some(k) = self.first_difference(p, q, n) else {
             return Ok(None);
         };
