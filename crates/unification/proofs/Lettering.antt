@@ -4,8 +4,8 @@ use Rattle.std.specs.Bool.{then_some}
 use Rattle.std.specs.List.{AllWithin, HoldsAt}
 use Rattle.std.specs.Array.{IsElementAt, IsFromFnResultFrom}
 use Rattle.std.specs.Fn.{Called, Mut}
-use Rattle.std.proofs.Common.{◌≡◌, ℕ, zero, suc, ◌+◌, ◌<◌, ◌≤◌, ◌≢◌, Bool, true, false, is_some, List, length, get_or, set, replicate, Some, None}
-use Rattle.std.proofs.Common.{Option as Maybe, sym, ap, ◌∙◌, subst, eq-or-lt_of_le}
+use Rattle.std.proofs.Common.{◌≡◌, ℕ, zero, suc, ◌+◌, ◌<◌, ◌≤◌, ◌≢◌, Bool, true, false, is_some, List, length, get_or, set, replicate}
+use Rattle.std.proofs.Common.{Some, None, Option as Maybe, sym, ap, ◌∙◌, subst, eq-or-lt_of_le}
 use Rattle.std.proofs.Common.{⊎_elim, arith, length-set, get_or-set_other, get_or-set_same}
 use lib.ListN.{length-replicate, get_or-replicate}
 use Rattle.std.proofs.lemmas.List.{get_or_past}

@@ -55,8 +55,7 @@ impl Closing<'_, '_> {
         if node != self.store.view(q) {
             return Err(Clash);
         }
-        // Stays `let .. else`: tried as `map`, with the parts in its closure, with a named closure and with a function for both, and
-        // no proof closes: of a closure given to an Option's `map`, its result is not known.
+        // Stays `let .. else`: tried as `map` of the two calls, of a helper and with `move`, and no proof sees what the closure makes.
         let Some(k) = self.first_difference(p, q, n) else {
             return Ok(None);
         };
