@@ -1,12 +1,14 @@
 -- The sign at a place against the one that its class is known by.
-use Rattle.std.proofs.Common.{◌≡◌, ℕ, ◌<◌, ◌≤◌, Some, None, Option as Maybe, sym, refl, ap, ◌∙◌, subst, arith}
+use Rattle.std.proofs.Common.{◌≡◌, ℕ, ◌<◌, ◌≤◌, Some, None, Option as Maybe, sym, refl, ap, ap₂, ◌∙◌, subst, arith}
 use Rattle.std.specs.Prelude.{MatchOption, Ok, Err, Result}
 use Rattle.std.specs.Result.{result_ok}
 use Rattle.rewriting.specs.Terms.{Term, letter, sign, Terms, put, puts, count}
 use Rattle.rewriting.proofs.Replacing.{count_puts}
 use Rattle.store.specs.declared.types.Store.{Store}
 use Rattle.store.specs.declared.types.Place.{Place}
-use Rattle.store.specs.Stores.{Sound, term_in, arity_in, part_in, parts_in}
+use Rattle.store.specs.declared.types.Node.{Node}
+use Rattle.store.specs.declared.types.Node.TheVariants.{Letter, Sign}
+use Rattle.store.specs.Stores.{Sound, Shows, term_in, part_in, parts_in}
 use Rattle.engine.proofs.Pendings.{count_parts_by}
 use Rattle.unification.specs.declared.types.Classes.{Classes}
 use Rattle.unification.specs.Classes.{label, IsSign, Labelled, Respects, SameClass, ClosedAt, NoneRespects, Forced, Merged, Each}
@@ -14,42 +16,38 @@ use Rattle.unification.specs.declared.types.Clash.{Clash}
 use Rattle.unification.specs.Classes.{Coarser, CoarserClosed, Closure, ClosureOf, FirstDifference}
 use Rattle.unification.proofs.Parts.{each_parts, parts_put}
 
--- a class with a sign is not known by a letter
-pub known_by_sign : (st : Store) (c : Classes) (i j f x : ℕ) (ts : Terms) → Labelled st st.count c → i < st.count →
-    term_in st i ≡ sign f ts → j ≡ label c i → term_in st j ≡ letter x → ⊥
-known_by_sign st c i j f x ts w l e k d =
-    subst IsSign (ap (λ (z : ℕ). term_in st z) (sym k) ∙ d) (w.signs i l (subst IsSign (sym e) tt))
+module _ (st : Store) (c : Classes) (w : Labelled st st.count c) (i j : ℕ) (low : i < st.count) (known : j ≡ label c i) where
+  -- a class with a sign is not known by a letter
+  known_by_sign : (f x : ℕ) (ts : Terms) → term_in st i ≡ sign f ts → term_in st j ≡ letter x → ⊥
+  known_by_sign f x ts e d =
+      subst IsSign (ap (λ (z : ℕ). term_in st z) (sym known) ∙ d) (w.signs i low (subst IsSign (sym e) tt))
 
-module _ (st : Store) (c : Classes) (sound : Sound st) (w : Labelled st st.count c) (i j : ℕ) (low : i < st.count)
-    (known : j ≡ label c i) (f n g m : ℕ) (is_i : term_in st i ≡ sign f (parts_in st i n))
-    (is_j : term_in st j ≡ sign g (parts_in st j m)) where
-  signs_one : (r : ℕ → Term) → Respects st st.count c r → sign f (puts r (parts_in st i n)) ≡ sign g (puts r (parts_in st j m))
-  signs_one r h =
+  signs_one : (f n g m : ℕ) → term_in st i ≡ sign f (parts_in st i n) → term_in st j ≡ sign g (parts_in st j m) → (r : ℕ → Term) →
+      Respects st st.count c r → sign f (puts r (parts_in st i n)) ≡ sign g (puts r (parts_in st j m))
+  signs_one f n g m is_i is_j r h =
       let a : put r (term_in st i) ≡ sign f (puts r (parts_in st i n)) = ap (put r) is_i in
       let b : put r (term_in st j) ≡ sign g (puts r (parts_in st j m)) = ap (put r) is_j in
       sym a ∙ h i low ∙ ap (λ (z : ℕ). put r (term_in st z)) (sym known) ∙ b
 
-  pub same_signs : (r : ℕ → Term) → Respects st st.count c r → (f ≡ g) × (n ≡ m)
-  same_signs r h =
-      let e = signs_one r h in
-      let k : puts r (parts_in st i n) ≡ puts r (parts_in st j m) = cc in (
-        cc,
-        sym (count_parts_by (λ z. term_in st z) (λ z. part_in st i z) 0 n) ∙ sym (count_puts r (parts_in st i n))
-            ∙ ap count k ∙ count_puts r (parts_in st j m) ∙ count_parts_by (λ z. term_in st z) (λ z. part_in st j z) 0 m,
-      )
+  -- what stands at the places is not the same
+  pub clash_by : (x y : Node) → IsSign (term_in st i) → (x ≡ y → ⊥) → Shows st i x → Shows st j y → NoneRespects st st.count c
+  clash_by (Letter a) y is ne si sj r h = absurd (subst IsSign si.1 is)
+  clash_by (Sign f n) (Letter a) is ne si sj r h = known_by_sign f a (parts_in st i n) si.2 sj.1
+  clash_by (Sign f n) (Sign g m) is ne si sj r h =
+      let e = signs_one f n g m si.2 sj.2 r h in
+      let same : f ≡ g = cc in
+      let k : puts r (parts_in st i n) ≡ puts r (parts_in st j m) = cc in
+      ne (ap₂ Sign same (sym (count_parts_by (λ z. term_in st z) (λ z. part_in st i z) 0 n) ∙ sym (count_puts r (parts_in st i n))
+      ∙ ap count k ∙ count_puts r (parts_in st j m) ∙ count_parts_by (λ z. term_in st z) (λ z. part_in st j z) 0 m))
 
-  module _ (one : f ≡ g) (many : n ≡ m) (arity-i : arity_in st i ≡ n) (arity-j : arity_in st j ≡ m) where
+  module _ (sound : Sound st) (f n : ℕ) (si : Shows st i (Sign f n)) (sj : Shows st j (Sign f n)) where
     part_low_i : (k : ℕ) → k < n → part_in st i k < st.count
-    part_low_i k l = let b = sound.shared.shape.below i k low (omega arith) in omega arith
+    part_low_i k l = let b = sound.shared.shape.below i k low (omega (arith, si.1)) in omega arith
 
     part_low_j : (k : ℕ) → k < n → part_in st j k < st.count
     part_low_j k l =
         let a = w.low i low in
-        let b = sound.shared.shape.below j k (omega arith) (omega arith) in omega arith
-
-    is_j_too : term_in st j ≡ sign f (parts_in st j n)
-    is_j_too =
-        is_j ∙ ap (λ (z : ℕ). sign z (parts_in st j m)) (sym one) ∙ ap (λ (z : ℕ). sign f (parts_in st j z)) (sym many)
+        let b = sound.shared.shape.below j k (omega arith) (omega (arith, sj.1)) in omega arith
 
     pub forced : (k : ℕ) (p q : Place) → k < n → p.0 ≡ part_in st i k → q.0 ≡ part_in st j k →
         (label c (part_in st i k) ≡ label c (part_in st j k) → ⊥) → Forced st c p q
@@ -58,8 +56,7 @@ module _ (st : Store) (c : Classes) (sound : Sound st) (w : Labelled st st.count
       second = let h = part_low_j k l in omega arith;
       differ = λ e. no1 (ap (label c) (sym a) ∙ e ∙ ap (label c) b);
       become = λ r h.
-          let e : sign f (puts r (parts_in st i n)) ≡ sign f (puts r (parts_in st j n)) =
-          signs_one r h ∙ ap (put r) (sym is_j ∙ is_j_too) in
+          let e = signs_one f n f n si.2 sj.2 r h in
           let z : puts r (parts_in st i n) ≡ puts r (parts_in st j n) = cc in
           ap (λ (y : ℕ). put r (term_in st y)) a
           ∙ parts_put (λ y. term_in st y) (λ y. term_in st y) (λ y. part_in st i y) (λ y. part_in st j y) r 0 n z k
@@ -69,11 +66,11 @@ module _ (st : Store) (c : Classes) (sound : Sound st) (w : Labelled st st.count
 
     pub closed_by : ((k : ℕ) → k < n → label c (part_in st i k) ≡ label c (part_in st j k)) → ClosedAt st st.count c i
     closed_by h f1 ts e =
-        let z : sign f (parts_in st i n) ≡ sign f1 ts = sym is_i ∙ e in
+        let z : sign f (parts_in st i n) ≡ sign f1 ts = sym si.2 ∙ e in
         let y : parts_in st i n ≡ ts = cc in
         let x : f ≡ f1 = cc in (
           parts_in st j n,
-          ap (λ (k : ℕ). term_in st k) (sym known) ∙ is_j_too ∙ ap (λ (g1 : ℕ). sign g1 (parts_in st j n)) x,
+          ap (λ (k : ℕ). term_in st k) (sym known) ∙ sj.2 ∙ ap (λ (g : ℕ). sign g (parts_in st j n)) x,
           subst (λ (us : Terms). Each (SameClass st st.count c) us (parts_in st j n)) y
               (each_parts (λ k. term_in st k) (λ k. term_in st k) (λ k. part_in st i k) (λ k. part_in st j k)
               (SameClass st st.count c) 0 n (λ k a b. record {

@@ -1,9 +1,11 @@
--- The letters of a store, found place by place.
+-- The letters of a store, found place by place; and an array that is made of them.
 use Rattle.std.specs.Prelude.{MatchBool}
 use Rattle.std.specs.Bool.{then_some}
 use Rattle.std.specs.List.{AllWithin, HoldsAt}
-use Rattle.std.proofs.Common.{◌≡◌, ℕ, ◌+◌, ◌<◌, ◌≢◌, Bool, true, false, is_some, List, length, get_or, set, replicate, Some, None}
-use Rattle.std.proofs.Common.{Option as Maybe, sym, ap, ◌∙◌}
+use Rattle.std.specs.Array.{IsElementAt, IsFromFnResultFrom}
+use Rattle.std.specs.Fn.{Called, Mut}
+use Rattle.std.proofs.Common.{◌≡◌, ℕ, zero, suc, ◌+◌, ◌<◌, ◌≤◌, ◌≢◌, Bool, true, false, is_some, List, length, get_or, set, replicate}
+use Rattle.std.proofs.Common.{Some, None, Option as Maybe, sym, ap, ◌∙◌, subst, eq-or-lt_of_le}
 use Rattle.std.proofs.Common.{⊎_elim, arith, length-set, get_or-set_other, get_or-set_same}
 use lib.ListN.{length-replicate, get_or-replicate}
 use Rattle.std.proofs.lemmas.List.{get_or_past}
@@ -107,3 +109,14 @@ not_all st b x w l e low h = let k = h x l in some_is_none (sym (w.found k.0 x k
 pub letters_found : (st : Store) (b : Bindings) (r : Bool) → FoundBelow st st.count b → AllBound b r → LettersFound st (then_some r b)
 letters_found st b true w h = all_found st b w h
 letters_found st b false w h = λ low k. not_all st b h.0 w h.1 h.2 low k
+
+-- what `from_fn` gives at an index, if its closure is left as it was
+pub call_at : {F B : Type 0} (g : Mut F (ℕ × Unit {0}) B) (f : F) → ((k : ℕ) (y : B) (p : F) → Called g f (k, tt) y p → p ≡ f) →
+    (ys : List B) (i n : ℕ) → IsFromFnResultFrom g f ys i n → (k : ℕ) → i ≤ k → k < i + n →
+    (y : B) × (p : F) × IsElementAt ys k y × Called g f (k, tt) y p
+call_at g f keeps ys i zero h k low high = absurd (omega arith)
+call_at {F} {B} g f keeps ys i (suc n) h k low high = ⊎_elim
+    (λ e. subst (λ (j : ℕ). (y : B) × (p : F) × IsElementAt ys j y × Called g f (j, tt) y p) e (h.1, h.0, h.2, h.3))
+    (λ l. call_at g f keeps ys (i + 1) n (subst (λ (p : F). IsFromFnResultFrom g p ys (i + 1) n) (keeps i h.1 h.0 h.3) h.4)
+    k (omega arith) (omega arith))
+    (eq-or-lt_of_le low)

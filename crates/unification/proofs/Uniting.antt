@@ -1,12 +1,12 @@
 -- The images of letters' classes are the least replacement that makes two terms one; or nothing does.
-use Rattle.std.proofs.Common.{◌≡◌, ℕ, suc, ◌+◌, ◌<◌, ◌≤◌, length, get_or, set, Some, None, Option as Maybe, sym, refl, ap, ◌∙◌, subst}
-use Rattle.std.proofs.Common.{ap₂, ⊎_elim, arith, get_or-set_other, get_or-set_same}
+use Rattle.std.proofs.Common.{◌≡◌, ℕ, suc, ◌<◌, ◌≤◌, Some, None, Option as Maybe, sym, refl, ap, ◌∙◌, subst}
+use Rattle.std.proofs.Common.{ap₂, ⊎_elim, arith}
 use Rattle.std.proofs.lemmas.List.{get_or_past}
 use Rattle.rewriting.specs.Terms.{Term, letter, sign, Terms, none1, and1, put, puts, size}
 use Rattle.store.specs.declared.types.Store.{Store}
 use Rattle.store.specs.declared.types.Place.{Place}
 use Rattle.store.specs.Stores.{term_in}
-use Rattle.store.proofs.Cases.{le_or_lt, last_or_below}
+use Rattle.store.proofs.Cases.{le_or_lt}
 use Rattle.store.proofs.Telling.{one_place}
 use Rattle.engine.specs.declared.types.Bindings.{Bindings}
 use Rattle.engine.specs.Matching.{bound, term_or, put_in, AllInside}
@@ -102,15 +102,3 @@ module _ (st su : Store) (p q : Place) (c : Classes) (m0 m : Images) (w : Closur
               ∙ sym (one_term (term_in st q.0) q.0 k.0 lq refl (ap (image m) (sym w.together) ∙ k.1));
           most = most;
         }
-
--- one letter more is bound to the image of its class
-pub letter_more : (b : Bindings) (c : Classes) (m : Images) (u : Bindings) (x : ℕ) (v : Maybe Place) (q : Place) → length u.at ≡ 32 →
-    x < 32 → bound b x ≡ Some q → v ≡ image m (label c q.0) →
-    ((y : ℕ) (p : Place) → y < x → bound b y ≡ Some p → bound u y ≡ image m (label c p.0)) →
-    (y : ℕ) (p : Place) → y < x + 1 → bound b y ≡ Some p → bound (record { at = set u.at x v }) y ≡ image m (label c p.0)
-letter_more b c m u x v q long low e d h y p l k = ⊎_elim
-    (λ z. let s : q ≡ p = same_place (sym e ∙ ap (bound b) (sym z) ∙ k) in
-    ap (λ (i : ℕ). get_or (set u.at x v) i None) z ∙ get_or-set_same u.at x v None (omega arith)
-    ∙ d ∙ ap (λ (a : Place). image m (label c a.0)) s)
-    (λ z. get_or-set_other u.at x y v None (omega arith) ∙ h y p z k)
-    (last_or_below y x l)

@@ -46,17 +46,16 @@ impl Closing<'_, '_> {
         requires { p.0 < self.now.store.now.count }
         ensures { CheckedAt self.now.store.now self.now.classes p.0 result }
     {
+        let node = self.store.view(p);
         // Stays `let .. else`: what stands at a place is an enum with data, and no Option.
-        let Node::Sign(f, n) = self.store.view(p) else {
+        let Node::Sign(_, n) = node else {
             return Ok(None);
         };
         let q = self.classes.known_by(p);
-        let Node::Sign(g, m) = self.store.view(q) else {
-            unreachable()
-        };
-        if f != g || n != m {
+        if node != self.store.view(q) {
             return Err(Clash);
         }
+        // Stays `let .. else`: tried as `map` of the two calls, of a helper and with `move`, and no proof sees what the closure makes.
         let Some(k) = self.first_difference(p, q, n) else {
             return Ok(None);
         };

@@ -12,7 +12,7 @@ pub struct Classes {
 }
 
 // For each class, by its label, the place of what becomes of its terms, once that is built.
-// Stays beside engine's bindings: those go by a letter's number and are bound once, and of the methods only `new` is the same.
+// Stays beside engine's `Bindings`: those are read by a letter's number and refuse a second place; only `new` would be shared.
 #[derive(Clone, Copy)]
 pub struct Images {
     pub at: [Option<Place>; 96],

@@ -8,6 +8,7 @@ use crate::building::build;
 use crate::closing::close;
 use crate::types::{Classes, Images};
 use engine::types::Bindings;
+use std::array;
 use store::{Place, Store};
 
 // Binds each letter to the image of its class.
@@ -15,13 +16,9 @@ fn bind_letters(letters: &Bindings, classes: &Classes, images: &Images) -> Bindi
     requires { (x : ℕ) → x < 32 → HasClass letters.now classes.now x }
     ensures { LetterImages letters.now classes.now images.now result }
 {
-    // Stays a loop: tried as the array's `map`, and no lemma says over an array what its closure asks of a letter's place.
-    let mut bindings = Bindings::new();
-    for x in 0..32 {
-        let p = letters.get(x).unwrap();
-        bindings.at[x as usize] = images.get(classes.known_by(p));
+    Bindings {
+        at: array::from_fn(|x| images.get(classes.known_by(letters.at[x].unwrap()))),
     }
-    bindings
 }
 
 // The least replacement that makes the terms at two places one, as places for the 32 letters; or that there is none.

@@ -1,26 +1,33 @@
--- One letter more.
-use Rattle.std.proofs.Common.{◌<◌, is_some, sym, ap, ◌∙◌, subst, arith, length-set}
+-- Each letter's place has a class, and the closure leaves what it reads as it was.
+use Rattle.std.proofs.Common.{◌≡◌, ◌<◌, None, Some, is_some, true, rules, sym, ap, ◌∙◌, subst, arith}
+use Rattle.std.proofs.iter.Serving.{same}
 use Rattle.store.specs.declared.types.Place.{Place}
+use Rattle.engine.specs.Matching.{bound}
+use Rattle.unification.specs.Classes.{label}
 use Rattle.unification.specs.Images.{image}
 use Rattle.unification.proofs.Built.{same_place}
-use Rattle.unification.proofs.Uniting.{letter_more}
+use Rattle.unification.proofs.Lettering.{call_at}
 use Rattle.unification.proofs.unifying.bind_letters.Goals as goal
 
-pub unwrap-p-requires : goal.unwrap-p-requires
-unwrap-p-requires c = let h = c.requires c.loop-x.x (omega arith) in ap is_some (c.get.ensures ∙ h.1)
-
-pub known_by-requires : goal.known_by-requires
-known_by-requires c =
-    let h = c.requires c.loop-x.x (omega arith) in
-    subst (λ (p : Place). p.0 < 96) (same_place (sym h.1 ∙ sym c.get.ensures ∙ c.unwrap-p.ensures)) h.2
-
-pub loop-x-preserved : goal.loop-x-preserved
-loop-x-preserved c = (
-  simp length-set c.loop-x.invariant.0,
-  letter_more c.args.letters.now c.args.classes.now c.args.images.now c.loop-x.bindings c.loop-x.x
-      c.get-in-loop-x.result c.unwrap-p.result c.loop-x.invariant.0 (omega arith) (sym c.get.ensures ∙ c.unwrap-p.ensures)
-      (c.get-in-loop-x.ensures ∙ ap (image c.args.images.now) c.known_by.ensures.label) c.loop-x.invariant.1,
+pub from_fn-requires : goal.from_fn-requires
+from_fn-requires c = (
+  omega arith,
+  record {
+    at = λ xs t q x u y f s.
+        let e = sym (same _ (λ k y r d. search rules) xs _ q f) in
+        let l : x < 32 = omega (arith, s.0) in
+        let h = c.requires x l in
+        let i : is_some (bound q.2.now x) ≡ true = subst (λ z. is_some (bound z.2.now x) ≡ true) e (ap is_some h.1) in
+        let j : (p : Place) → bound q.2.now x ≡ Some p → p.0 < 96 = subst (λ z. (p : Place) → bound z.2.now x ≡ Some p → p.0 < 96) e
+        (λ p d. subst (λ (p : Place). p.0 < 96) (same_place (sym h.1 ∙ d)) h.2) in
+        search (rules, l, i, j);
+  },
 )
 
 pub returns : goal.returns
-returns c = record { long = c.loop-x.invariant.0; is = λ x p l e. c.loop-x.invariant.1 x p (omega arith) e }
+returns c = record {
+  long = c.from_fn.ensures.items.long;
+  is = λ x p l e.
+      let h = call_at _ _ (λ k y r d. search rules) _ 0 32 c.from_fn.ensures.items.each x (omega arith) l in
+      let i : h.0 ≡ image c.args.images.now (label c.args.classes.now p.0) = search (rules, h, e) in h.2.1 None ∙ i;
+}
