@@ -1,6 +1,5 @@
 -- Some rule does not go down.
 use Rattle.std.proofs.Common.{sym}
-use Rattle.books.specs.Books.{sound_book_in}
 use Rattle.calls.proofs.Through.{up_not_down}
 use Rattle.calls.proofs.rows.answer.Goals as goal
 
@@ -8,4 +7,4 @@ pub returns-in-Some-first_up : goal.returns-in-Some-first_up
 returns-in-Some-first_up c =
     let k = c.in-Some.book in
     let u = c.in-Some-first_up.ensures in
-    rw (sym c.in-Some.ensures) (k.reads, up_not_down k (sound_book_in k) c.in-Some-first_up.i u.0 u.1)
+    rw (sym c.in-Some.ensures) (k.reads, up_not_down k c.in-Some-first_up.i u.0 u.1)
