@@ -16,7 +16,7 @@ use Rattle.books.proofs.Glueing.{row_length}
 use Rattle.books.proofs.Unique.{rows_once}
 use Rattle.engine.proofs.Trying.{greater_sign}
 use Rattle.overlaps.specs.Positions.{index, At, SameSign, OverlapIs, OverlapOrNone}
-use Rattle.overlaps.proofs.Positions.{at_index, behind, words_from, word_from}
+use Rattle.overlaps.proofs.Positions.{at_index, behind, words_from, word_from, part_length}
 
 row_once : (ps : List ℕ) (t u : Term) (xs ys : List ℕ) → Over SmallLetter ps t → Over SmallLetter ps u →
     row t ++ xs ≡ row u ++ ys → t ≡ u
@@ -36,12 +36,6 @@ side_short b i low e =
 module _ (b : Book) (down : AllDown (rank (told b).ranks) (told b).rules) (i j k : ℕ)
     (low : (i < length (told b).rules) × (j < length (told b).rules)) {ws vs : List ℕ}
     (ew : ws ≡ row (rule_in b i).left) (ev : vs ≡ row (rule_in b j).left) where
-  pub signs_there : k < size (rule_in b i).left → (2 * k + 2 ≤ length ws) × (2 ≤ length vs)
-  signs_there h = (
-    omega (arith, ap length ew, row_length (rule_in b i).left),
-    omega (arith, ap length ev, row_length (rule_in b j).left, size_some (rule_in b j).left),
-  )
-
   -- another sign
   pub other_sign : (SameSign ws (2 * k) vs → ⊥) → OverlapOrNone b i j k None
   other_sign n f us place e s d =
@@ -49,10 +43,19 @@ module _ (b : Book) (down : AllDown (rank (told b).ranks) (told b).rules) (i j k
       let x : sign f (puts s us) ≡ sign g (puts s (puts (λ x. letter (x + 16)) ts)) = d ∙ ap (λ (t : Term). put s (renamed t)) h in
       let z : f ≡ g = cc in
       let o : 2 * k + 0 ≡ 2 * k = omega arith in
-      let tag = ap (λ (m : ℕ). get_or ws m 0) (sym o) ∙ word_from place ws ew k 0 e in
+      let l = part_length place ws ew in
       n (
-        (λ y. omega (arith, tag)),
-        word_from place ws ew k 1 e ∙ (z ∙ sym (ap (λ (w : List ℕ). get_or w 1 0) (ev ∙ ap row h))),
+        f,
+        (
+          omega (arith, l, e),
+          ap (λ (m : ℕ). get_or ws m 0) (sym o) ∙ word_from place ws ew k 0 e,
+          word_from place ws ew k 1 e,
+        ),
+        (
+          omega (arith, ap length ev, row_length (rule_in b j).left, size_some (rule_in b j).left),
+          ap (λ (w : List ℕ). get_or w 0 0) (ev ∙ ap row h),
+          ap (λ (w : List ℕ). get_or w 1 0) (ev ∙ ap row h) ∙ sym z,
+        ),
       )
 
   module _ {ps : List ℕ} (ep : ps ≡ (told b).parts) where
@@ -76,7 +79,7 @@ module _ (b : Book) (down : AllDown (rank (told b).ranks) (told b).rules) (i j k
           inner = refl;
           stands = record { outer = low.0; inner = low.1; part = v; place = place; at = each v place e };
           is_sign = first_sign v (behind place)
-              (λ y. g.0 (ap (λ (m : ℕ). get_or ws m 0) (sym d) ∙ (word_from place ws ew k 0 e ∙ y)));
+              (λ y. absurd (omega (arith, g.1.1, ap (λ (m : ℕ). get_or ws m 0) (sym d) ∙ (word_from place ws ew k 0 e ∙ y))));
           each = each;
         }
       where

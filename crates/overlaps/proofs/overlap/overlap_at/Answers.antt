@@ -2,18 +2,13 @@
 use Rattle.std.proofs.Common.{refl, arith}
 use Rattle.books.specs.Books.{sound_book_in}
 use Rattle.books.proofs.Bookish.{rule_sides}
-use Rattle.overlaps.proofs.Overlapping.{signs_there, other_sign, no_end, overlap_is}
+use Rattle.overlaps.proofs.Overlapping.{other_sign, no_end, overlap_is}
 use Rattle.overlaps.proofs.overlap.overlap_at.Goals as goal
 
 pub overflow_mul-from : goal.overflow_mul-from
 overflow_mul-from c =
     let b = c.args.book.now in
     omega (arith, (rule_sides b (sound_book_in b) c.args.i c.requires.i_in_bounds.0).left_size)
-
-pub same_sign-requires : goal.same_sign-requires
-same_sign-requires c =
-    signs_there c.args.book.now c.requires.down c.args.i c.args.j c.args.k c.requires.i_in_bounds c.left-left.ensures c.left.ensures
-    c.requires.k_bound
 
 pub returns-then-not-same_sign : goal.returns-then-not-same_sign
 returns-then-not-same_sign c =
