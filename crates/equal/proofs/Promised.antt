@@ -8,7 +8,7 @@ use Rattle.rewriting.proofs.Pairs.{told_by_pairs_lem}
 use Rattle.rewriting.proofs.Peaks.{overlaps_tell_lem, peaks_tell_lem}
 use Rattle.rewriting.proofs.Settling.{settled}
 use Rattle.books.specs.declared.row.Book.{Book}
-use Rattle.books.specs.Books.{told, SoundBook}
+use Rattle.books.specs.Books.{told, sound_book_in}
 use Rattle.books.specs.Rows.{Reads}
 use Rattle.books.proofs.Unique.{one_book, one_term, one_ways}
 use Rattle.engine.specs.declared.work.Work.{Work}
@@ -17,9 +17,9 @@ use Rattle.equal.specs.declared.types.Judged.{Judged}
 use Rattle.equal.specs.declared.types.Judged.TheVariants.{Settles, Up, Apart, Lost, Stray, NoBook, Room, Few}
 use Rattle.equal.specs.declared.types.Told.{Told}
 use Rattle.equal.specs.declared.types.Told.TheVariants.{Same, Different, Unsettled, NoTerm, Full, Unjudged, Small}
-use Rattle.engine.specs.Meeting.{most_parts}
+use Rattle.engine.specs.Meeting.{Ample, LeftIdle, most_parts}
 use Rattle.equal.specs.Promises.{JudgedSays, TooFew, Large, Theorems, JudgedPost, ToldSays, Grows, ToldPost}
-use Rattle.equal.specs.Judging.{Growing, RoomFor, OpenStore, JudgedIn, not_settled, RowsSay}
+use Rattle.equal.specs.Judging.{Growing, RoomFor, JudgedIn, not_settled, RowsSay}
 use Rattle.equal.proofs.Excluding.{excludes}
 
 pub theorems : Theorems
@@ -35,34 +35,41 @@ theorems = record {
 }
 
 -- what the work words give
-module _ (s h : List ℕ) (w : ℕ) (k : Work) (fresh : Fresh w k) where
-  pub open_store : OpenStore k
-  open_store = record { sound = fresh.sound; honest = fresh.honest; none = fresh.top }
-
-  pub room_for : (TooFew w (length s + length h) → ⊥) → RoomFor s h (most_parts w) k
-  room_for enough = record { ample = fresh.ample; slots = fresh.slots; long = at (dec_le (length s + length h) (most_parts w)) }
+module _ {s h : List ℕ} {w : ℕ} {k : Work} (fresh : Fresh w k) (enough : TooFew w (length s + length h) → ⊥) where
+  room_for : RoomFor s h (most_parts w) k
+  room_for = record { ample = fresh.ample; slots = fresh.slots; long = at (dec_le (length s + length h) (most_parts w)) }
     where
       at : Dec (length s + length h ≤ most_parts w) → length s + length h ≤ most_parts w
       at (yes e) = e
       at (no d) = absurd (enough (omega arith))
 
+  -- what was found of a book that settles
+  module _ {l : Work} (found : (n : ℕ) → RoomFor s h n k → JudgedIn s h n k l Settles) where
+    pub settles_said : JudgedSays s h Settles
+    settles_said = (found (most_parts w) room_for).says
+
+    pub settled_idle : (b : Book) → b.words.now ≡ s → LeftIdle b k l
+    settled_idle b same = (found (most_parts w) room_for).idle refl b (sound_book_in b) same
+
 -- a term of more different parts than w words allow has too many letters and signs
 large : (b : ToldBook) (w : ℕ) → 16384 ≤ w → Growing b (most_parts w) → Large b w
 large b w low (t, u, start, steps, many) = (t, u, start, steps, omega (arith, different_size u))
 
-pub judged_post : (s h : List ℕ) (w : ℕ) → 16384 ≤ w → (TooFew w (length s + length h) → ⊥) → (k l : Work) (a : Judged) →
-    JudgedIn s h (most_parts w) k l a → JudgedPost s h w a
-judged_post s h w low enough k l a j = record {
-  says = j.says;
-  room = λ e b reads. large b w low (j.room e b reads);
-  few = (λ few. absurd (enough few), λ e. absurd (j.enough e));
-  parts = theorems;
-}
+pub judged_post : {s h : List ℕ} {w : ℕ} {k l : Work} {a : Judged} → (16384 ≤ w) × Fresh w k →
+    (TooFew w (length s + length h) → ⊥) → ((n : ℕ) → RoomFor s h n k → JudgedIn s h n k l a) → JudgedPost s h w a
+judged_post {w = w} given enough found =
+    let j = found (most_parts w) (room_for given.1 enough) in
+    record {
+      says = j.says;
+      room = λ e b reads. large b w given.0 (j.room e b reads);
+      few = (λ few. absurd (enough few), λ e. absurd (j.enough e));
+      parts = theorems;
+    }
 
 pub judged_few : (s h : List ℕ) (w : ℕ) → TooFew w (length s + length h) → JudgedPost s h w Few
 judged_few s h w few = record {
   says = tt;
-  room = λ e. let z : ◌≡◌ {A = ℕ} 0 1 = cc in absurd (omega arith);
+  room = λ e. cc;
   few = (λ _. refl, λ _. few);
   parts = theorems;
 }
@@ -72,52 +79,48 @@ module _ (s h x y : List ℕ) (w : ℕ) where
   pub told_small : TooFew w (length s + (length h + (length x + length y))) → ToldPost s h x y w Small
   told_small few = record {
     says = tt;
-    full = λ e. let z : ◌≡◌ {A = ℕ} 0 1 = cc in absurd (omega arith);
-    unjudged = λ e. let z : ◌≡◌ {A = ℕ} 0 1 = cc in absurd (omega arith);
+    full = λ e. cc;
+    unjudged = λ e. cc;
     small = (λ _. refl, λ _. few);
     parts = theorems;
   }
 
   module _ (enough : TooFew w (length s + (length h + (length x + length y))) → ⊥) where
-    -- another answer than that it settles
-    pub told_refused : 16384 ≤ w → (k l : Work) (r : Judged) → JudgedIn s h (most_parts w) k l r → (r ≡ Settles → ⊥) → (a : Told) → a ≡ not_settled r → ToldPost s h x y w a
-    told_refused low k l r p other a e = subst (ToldPost s h x y w) (sym e) (at r p other)
-      where
-        unsettled : (JudgedSays s h Settles → ⊥) → ToldPost s h x y w Unsettled
-        unsettled never = record {
-          says = never;
-          full = λ e. let z : ◌≡◌ {A = ℕ} 0 1 = cc in absurd (omega arith);
-          unjudged = λ e. let z : ◌≡◌ {A = ℕ} 0 1 = cc in absurd (omega arith);
-          small = (λ few. absurd (enough few), λ e. let z : ◌≡◌ {A = ℕ} 0 1 = cc in absurd (omega arith));
-          parts = theorems;
-        }
+    -- another answer rules out that the book settles
+    by : (r : Judged) → (r ≡ Settles → ⊥) → (r ≡ Room → ⊥) → (r ≡ Few → ⊥) → JudgedSays s h r → ToldPost s h x y w Unsettled
+    by r other room few says = record {
+      says = excludes s h r other room few says;
+      full = λ e. cc;
+      unjudged = λ e. cc;
+      small = (λ small. absurd (enough small), λ e. cc);
+      parts = theorems;
+    }
 
-        by : (r : Judged) → JudgedIn s h (most_parts w) k l r → (r ≡ Settles → ⊥) → (r ≡ Room → ⊥) →
-            ToldPost s h x y w Unsettled
-        by r p other room = unsettled (excludes s h r other room p.enough p.says)
+    at : (r : Judged) → (r ≡ Settles → ⊥) → JudgedPost s h w r → ToldPost s h x y w (not_settled r)
+    at Settles other p = absurd (other refl)
+    at (Up i) other p = by (Up i) other (λ e. cc) (λ e. cc) p.says
+    at Apart other p = by Apart other (λ e. cc) (λ e. cc) p.says
+    at (Lost i) other p = by (Lost i) other (λ e. cc) (λ e. cc) p.says
+    at Stray other p = by Stray other (λ e. cc) (λ e. cc) p.says
+    at NoBook other p = by NoBook other (λ e. cc) (λ e. cc) p.says
+    at Room other p = record {
+      says = tt;
+      full = λ e. cc;
+      unjudged = λ e. (p.says, p.room refl);
+      small = (λ small. absurd (enough small), λ e. cc);
+      parts = theorems;
+    }
+    at Few other p = absurd (enough (omega (arith, p.few.1 refl)))
 
-        at : (r : Judged) → JudgedIn s h (most_parts w) k l r → (r ≡ Settles → ⊥) → ToldPost s h x y w (not_settled r)
-        at Settles p other = absurd (other refl)
-        at (Up i) p other = by (Up i) p other (λ e. let z : ◌≡◌ {A = ℕ} 0 1 = cc in omega arith)
-        at Apart p other = by Apart p other (λ e. let z : ◌≡◌ {A = ℕ} 0 1 = cc in omega arith)
-        at (Lost i) p other = by (Lost i) p other (λ e. let z : ◌≡◌ {A = ℕ} 0 1 = cc in omega arith)
-        at Stray p other = by Stray p other (λ e. let z : ◌≡◌ {A = ℕ} 0 1 = cc in omega arith)
-        at NoBook p other = by NoBook p other (λ e. let z : ◌≡◌ {A = ℕ} 0 1 = cc in omega arith)
-        at Room p other = record {
-          says = tt;
-          full = λ e. let z : ◌≡◌ {A = ℕ} 0 1 = cc in absurd (omega arith);
-          unjudged = λ e. (p.says, λ b reads. large b w low (p.room refl b reads));
-          small = (λ few. absurd (enough few), λ e. let z : ◌≡◌ {A = ℕ} 0 1 = cc in absurd (omega arith));
-          parts = theorems;
-        }
-        at Few p other = absurd (p.enough refl)
+    pub told_other : (r : Judged) → (r ≡ Settles → ⊥) → JudgedPost s h w r → (a : Told) → a ≡ not_settled r → ToldPost s h x y w a
+    told_other r other p a e = subst (ToldPost s h x y w) (sym e) (at r other p)
 
     -- it settles
-    module _ (b : Book) (sound : SoundBook b) (same : b.words.now ≡ s) (said : JudgedSays s h Settles) where
+    module _ (b : Book) (same : b.words.now ≡ s) (said : JudgedSays s h Settles) where
       reads : Reads s (told b)
-      reads = subst (λ (v : List ℕ). Reads v (told b)) same sound.reads
+      reads = subst (λ (v : List ℕ). Reads v (told b)) same (sound_book_in b).reads
 
-      pub short : (n : ℕ) → n ≤ length x + length y → n ≤ most_parts w
+      short : (n : ℕ) → n ≤ length x + length y → n ≤ most_parts w
       short n l = at (dec_le n (most_parts w))
         where
           at : Dec (n ≤ most_parts w) → n ≤ most_parts w
@@ -133,19 +136,17 @@ module _ (s h x y : List ℕ) (w : ℕ) where
         parts = theorems;
       }
 
-      pub told_rows : (a : Told) → RowsSay b (most_parts w) x y a → ToldPost s h x y w a
-      told_rows Same (t, u, ot, ou, e) = post Same (told b, t, u, said, reads, ot, ou, e)
-          (λ d. let z : ◌≡◌ {A = ℕ} 0 1 = cc in absurd (omega arith)) (λ d. let z : ◌≡◌ {A = ℕ} 0 1 = cc in omega arith)
-          (λ d. let z : ◌≡◌ {A = ℕ} 0 1 = cc in omega arith)
-      told_rows Different (t, u, ot, ou, e) = post Different (told b, t, u, said, reads, ot, ou, e)
-          (λ d. let z : ◌≡◌ {A = ℕ} 0 1 = cc in absurd (omega arith)) (λ d. let z : ◌≡◌ {A = ℕ} 0 1 = cc in omega arith)
-          (λ d. let z : ◌≡◌ {A = ℕ} 0 1 = cc in omega arith)
-      told_rows Unsettled none = absurd none
-      told_rows NoTerm none = post NoTerm (told b, said, reads, none)
-          (λ d. let z : ◌≡◌ {A = ℕ} 0 1 = cc in absurd (omega arith)) (λ d. let z : ◌≡◌ {A = ℕ} 0 1 = cc in omega arith)
-          (λ d. let z : ◌≡◌ {A = ℕ} 0 1 = cc in omega arith)
-      told_rows Full (t, u, o, steps, large) = post Full said
-          (λ d. (told b, t, u, reads, o, steps, omega (arith, different_size u))) (λ d. let z : ◌≡◌ {A = ℕ} 0 1 = cc in omega arith)
-          (λ d. let z : ◌≡◌ {A = ℕ} 0 1 = cc in omega arith)
-      told_rows Unjudged none = absurd none
-      told_rows Small none = absurd none
+      rows : (a : Told) → RowsSay b (most_parts w) x y a → ToldPost s h x y w a
+      rows Same (t, u, ot, ou, e) = post Same (told b, t, u, said, reads, ot, ou, e) (λ d. cc) (λ d. cc) (λ d. cc)
+      rows Different (t, u, ot, ou, e) = post Different (told b, t, u, said, reads, ot, ou, e) (λ d. cc) (λ d. cc) (λ d. cc)
+      rows Unsettled none = absurd none
+      rows NoTerm none = post NoTerm (told b, said, reads, none) (λ d. cc) (λ d. cc) (λ d. cc)
+      rows Full (t, u, o, steps, large) = post Full said
+          (λ d. (told b, t, u, reads, o, steps, omega (arith, different_size u))) (λ d. cc) (λ d. cc)
+      rows Unjudged none = absurd none
+      rows Small none = absurd none
+
+      pub told_rows : {l : Work} {a : Told} → Ample (most_parts w) l →
+          ((n : ℕ) → Ample n l → length x ≤ n → length y ≤ n → RowsSay b n x y a) → ToldPost s h x y w a
+      told_rows {a = a} ample found =
+          rows a (found (most_parts w) ample (short (length x) (omega arith)) (short (length y) (omega arith)))

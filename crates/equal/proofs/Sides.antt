@@ -1,6 +1,6 @@
 -- The sides of equations as rows, and a loop over the equations that looks whether they meet.
 use Rattle.std.proofs.Common.{◌≡◌, ℕ, ◌+◌, ◌*◌, ◌<◌, ◌≤◌, Bool, true, false, List, length, get_or, is_some as option_is_some, Some, None}
-use Rattle.std.proofs.Common.{Option as Maybe, Ok, Err, Result, sym, refl, ◌∙◌, subst, arith}
+use Rattle.std.proofs.Common.{Option as Maybe, Ok, Result, sym, refl, ◌∙◌, subst, arith}
 use native.Mathlib.Decide.{ℕ_discrete}
 use Rattle.rewriting.specs.Terms.{SmallLetter, Fits}
 use Rattle.rewriting.specs.Rules.{Eq, Meet}
@@ -8,36 +8,36 @@ use Rattle.rewriting.specs.Books.{OneEnd, NoLess}
 use Rattle.rewriting.proofs.Signature.{over_fits}
 use Rattle.rewriting.proofs.Verdicts.{lost_by}
 use Rattle.books.specs.declared.row.Book.{Book}
-use Rattle.books.specs.Books.{told, SoundBook, blank, equation_in, EquationAt}
+use Rattle.books.specs.Books.{told, sound_book_in, blank, equation_in, EquationAt}
 use Rattle.books.specs.Rows.{row}
 use Rattle.books.proofs.Elements.{nth_below, nth_is}
 use Rattle.books.proofs.Bookish.{equation_sides, equation_at}
 use Rattle.engine.specs.declared.types.NoRoom.{NoRoom}
 use Rattle.engine.specs.declared.work.Work.{Work}
-use Rattle.engine.specs.Meeting.{Ample, Working, LeftIdle, Compares}
+use Rattle.engine.specs.Meeting.{Ample, LeftIdle, Compares}
 use Rattle.engine.specs.Pairs.{RowsOf, RowsCompared}
 use Rattle.equal.specs.Judging.{AmpleFor, KeptBefore, EquationsSay}
 
-module _ (b : Book) (sound : SoundBook b) (i : ℕ) (low : i < length (told b).eqs) where
+module _ (b : Book) (i : ℕ) (low : i < length (told b).eqs) where
   pub left_fits : Fits (told b).parts (equation_in b i).left
-  left_fits = over_fits (told b).parts SmallLetter (equation_in b i).left (equation_sides b sound i low).left
+  left_fits = over_fits (told b).parts SmallLetter (equation_in b i).left (equation_sides b (sound_book_in b) i low).left
 
   pub right_fits : Fits (told b).parts (equation_in b i).right
-  right_fits = over_fits (told b).parts SmallLetter (equation_in b i).right (equation_sides b sound i low).right
+  right_fits = over_fits (told b).parts SmallLetter (equation_in b i).right (equation_sides b (sound_book_in b) i low).right
 
   -- where its sides stand
   abbrev start : ℕ → ℕ
   start k = get_or b.layout.starts k 0
 
   stands : EquationAt b i (start (2 * i)) (start (2 * i + 1)) (start (2 * i + 2))
-  stands = equation_at b sound i low (start (2 * i)) (start (2 * i + 1)) (start (2 * i + 2)) refl refl refl
+  stands = equation_at b (sound_book_in b) i low (start (2 * i)) (start (2 * i + 1)) (start (2 * i + 2)) refl refl refl
 
   -- its sides as rows
-  module _ (ls rs : List ℕ) (left : ls ≡ row (equation_in b i).left) (right : rs ≡ row (equation_in b i).right) where
+  module _ {ls rs : List ℕ} (left : ls ≡ row (equation_in b i).left) (right : rs ≡ row (equation_in b i).right) where
     pub side_rows : RowsOf b ls rs (equation_in b i).left (equation_in b i).right
     side_rows = record {
-      left = record { written = sym left; fits = (equation_sides b sound i low).left };
-      right = record { written = sym right; fits = (equation_sides b sound i low).right };
+      left = record { written = sym left; fits = (equation_sides b (sound_book_in b) i low).left };
+      right = record { written = sym right; fits = (equation_sides b (sound_book_in b) i low).right };
     }
 
     pub is_some : (w : Work) (x : Maybe (Result Bool NoRoom)) → RowsCompared b w ls rs x → option_is_some x ≡ true
@@ -52,14 +52,10 @@ module _ (b : Book) (sound : SoundBook b) (i : ℕ) (low : i < length (told b).e
         side_rows n e.ample (omega (arith, stands.left.long, stands.left.within, e.long))
         (omega (arith, stands.right.long, stands.right.within, e.long))
 
--- nothing is done yet
-pub idle_start : (b : Book) (w : Work) → Working b w.store → w.roots.top ≡ 0 → LeftIdle b w w
-idle_start b w ok e = record { working = ok; room = refl; cells = refl; words = refl; none = e }
-
-module _ (b : Book) (w v : Work) (idle : LeftIdle b w v) where
+module _ {b : Book} {w v : Work} (idle : LeftIdle b w v) where
   -- and what is done next
-  pub idle_on : (u : Work) → LeftIdle b v u → LeftIdle b w u
-  idle_on u h = record {
+  pub idle_on : {u : Work} → LeftIdle b v u → LeftIdle b w u
+  idle_on h = record {
     working = h.working;
     room = h.room ∙ idle.room;
     cells = h.cells ∙ idle.cells;
@@ -67,16 +63,16 @@ module _ (b : Book) (w v : Work) (idle : LeftIdle b w v) where
     none = h.none;
   }
 
-  pub ample_kept : (n : ℕ) → Ample n w → Ample n v
-  ample_kept n a = record {
+  pub ample_kept : {n : ℕ} → Ample n w → Ample n v
+  ample_kept a = record {
     slots = omega (arith, a.slots, idle.room);
     cells = omega (arith, a.cells, idle.cells);
     words = omega (arith, a.words, idle.words);
   }
 
-  pub ample_on : (n : ℕ) → AmpleFor b n w → AmpleFor b n v
-  ample_on n e = record {
-    ample = ample_kept n e.ample;
+  pub ample_on : {n : ℕ} → AmpleFor b n w → AmpleFor b n v
+  ample_on e = record {
+    ample = ample_kept e.ample;
     slots = omega (arith, e.slots, idle.room);
     long = e.long;
   }
@@ -97,11 +93,11 @@ kept_all b i l kept j e h =
     (kept j (omega (arith, nth_below (told b).eqs j e h)))
 
 -- the first that is lost
-pub is_lost : (b : Book) → SoundBook b → OneEnd (told b) → (n i : ℕ) (low : i < length (told b).eqs) → KeptBefore b i →
+pub is_lost : (b : Book) → OneEnd (told b) → (n i : ℕ) (low : i < length (told b).eqs) → KeptBefore b i →
     Compares b n (equation_in b i).left (equation_in b i).right (Ok false) → EquationsSay b n (Ok (Some i))
-is_lost b sound one n i low kept (v, w, hv, dv, hw, dw, differ) = (
+is_lost b one n i low kept (v, w, hv, dv, hw, dw, differ) = (
   low,
-  lost_by (told b) one (equation_in b i).left (equation_in b i).right v w (left_fits b sound i low) (right_fits b sound i low)
+  lost_by (told b) one (equation_in b i).left (equation_in b i).right v w (left_fits b i low) (right_fits b i low)
       hv dv hw dw differ,
   kept,
 )

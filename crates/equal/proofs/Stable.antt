@@ -7,12 +7,9 @@ use Rattle.rewriting.specs.Rules.{Eq}
 use Rattle.rewriting.specs.Books.{Book, Sides, Fine}
 use Rattle.rewriting.specs.Ways.{Way, Ways}
 use Rattle.rewriting.proofs.Signature.{dec_over}
-use Rattle.books.specs.declared.layout.Layout.{Layout}
-use Rattle.books.specs.declared.row.Book.{Book as Worded}
 use Rattle.books.specs.declared.words.Letters.TheVariants.{Any}
-use Rattle.books.specs.Books.{told, SoundBook}
-use Rattle.books.specs.Layouts.{Laid, listed}
-use Rattle.books.specs.Reading.{Found, read, TermAt}
+use Rattle.books.specs.Layouts.{listed}
+use Rattle.books.specs.Reading.{Found, read}
 use Rattle.books.specs.Rows.{Reads, rowB, rowTerms, rowWays, AllFit, WaysFit}
 use Rattle.books.proofs.Reading.{read_these}
 use Rattle.books.proofs.Sided.{terms, listed_terms, count_terms, rows_terms}
@@ -68,27 +65,6 @@ pub stable_reads : (s : List ℕ) (b : Book) → Stable (Reads s b)
 stable_reads s b h = record {
   is = by_dec (dec_words (rowB b) s) (twice (λ r. r.is) h);
   fine = stable_fine b (twice (λ r. r.fine) h);
-}
-
-stable_at : (ws : List ℕ) (a z : ℕ) (t : Term) → Stable (TermAt ws a z t)
-stable_at ws a z t h = record {
-  written = by_dec (dec_words _ _) (twice (λ r. r.written) h);
-  long = by_dec (ℕ_discrete _ _) (twice (λ r. r.long) h);
-  within = by_dec (dec_le z (length ws)) (twice (λ r. r.within) h);
-}
-
-stable_laid : (s : List ℕ) (b : Book) (l : Layout) → Stable (Laid s b l)
-stable_laid s b l h = record {
-  signs = by_dec (ℕ_discrete _ _) (twice (λ r. r.signs) h);
-  equations = by_dec (ℕ_discrete _ _) (twice (λ r. r.equations) h);
-  rules = by_dec (ℕ_discrete _ _) (twice (λ r. r.rules) h);
-  at = λ i t e. stable_at s _ _ t (twice (λ r. r.at i t e) h);
-}
-
-pub stable_book : (k : Worded) → Stable (SoundBook k)
-stable_book k h = record {
-  reads = stable_reads k.words.now (told k) (twice (λ r. r.reads) h);
-  laid = stable_laid k.words.now (told k) k.layout (twice (λ r. r.laid) h);
 }
 
 -- the ways that words say: n of them

@@ -1,17 +1,11 @@
 -- What the checks of a book whose rules go down come to.
-use Rattle.std.proofs.Common.{◌≡◌, ℕ, ◌<◌, Bool, true, false, ◌⊎◌, List, length, refl, ◌∙◌, inl, inr}
+use Rattle.std.proofs.Common.{ℕ, ◌<◌, Bool, true, false, ◌⊎◌, List, length, refl, inl, inr}
 use Rattle.rewriting.specs.Rules.{Steps}
 use Rattle.rewriting.specs.Answers.{Tells}
 use Rattle.rewriting.specs.Books.{OneEnd, NoLess}
-use Rattle.store.specs.declared.types.Store.{Store}
-use Rattle.store.specs.declared.types.Roots.{Roots}
-use Rattle.store.specs.Stores.{Carried}
 use Rattle.books.specs.declared.row.Book.{Book}
 use Rattle.books.specs.Books.{told, SoundBook, equation_in}
 use Rattle.books.proofs.Bookish.{is_equation}
-use Rattle.engine.specs.declared.work.Work.{Work}
-use Rattle.engine.specs.Meeting.{LeftIdle}
-use Rattle.engine.proofs.Honesty.{honest_carried}
 use Rattle.equal.specs.Judging.{LargeSide, Growing, RulesSay, by_ways}
 use Rattle.ways.specs.Showing.{Shown}
 
@@ -22,21 +16,6 @@ side_large b sound n i low (u, steps, large) = at steps
     at : Steps (told b).rules (equation_in b i).left u ⊎ Steps (told b).rules (equation_in b i).right u → Growing (told b) n
     at (inl h) = ((equation_in b i).left, u, inr (i, equation_in b i, is_equation b sound i low, inl refl), h, large)
     at (inr h) = ((equation_in b i).right, u, inr (i, equation_in b i, is_equation b sound i low, inr refl), h, large)
-
--- the store may have changed as long as its flags and notes go back to those that were right
-pub idle_carried : (b : Book) (w v : Work) → LeftIdle b w v → (st : Store) (q : Roots) → Carried v.store st →
-    st.room ≡ v.store.room → length q.cells.now ≡ length v.roots.cells.now → q.top ≡ 0 →
-    LeftIdle b w (record { store = st; roots = q; frames = v.frames })
-idle_carried b w v idle st q carried room cells none = record {
-  working = record {
-    down = idle.working.down;
-    honest = honest_carried (told b).rules v.store st idle.working.honest carried;
-  };
-  room = room ∙ idle.room;
-  cells = cells ∙ idle.cells;
-  words = idle.words;
-  none = none;
-}
 
 -- the ways show the rules, or not
 pub said_by_ways : (b : Book) (h : List ℕ) (n : ℕ) → OneEnd (told b) → NoLess (told b) → (x : Bool) → Tells x (Shown b h) →

@@ -1,5 +1,6 @@
 -- What the comparison of both results tells of the book.
-use Rattle.std.proofs.Common.{◌≡◌, ℕ, ◌+◌, ◌<◌, ◌≤◌, Bool, true, false, length, Some, None, Ok, Err, Result, sym, refl, ap, ◌∙◌, subst, subst₂, inl, inr, arith}
+use Rattle.std.proofs.Common.{◌≡◌, ℕ, ◌+◌, ◌<◌, ◌≤◌, Bool, true, false, length, Some, None, Ok, Err, Result, sym, refl, ap, ◌∙◌, subst}
+use Rattle.std.proofs.Common.{subst₂, inl, inr, arith}
 use mathlib.Core.Option.{some}
 use Rattle.rewriting.specs.Terms.{nth, Term, letter, sign, Terms, put, size, Fits, SmallLetter, AnyLetter}
 use Rattle.rewriting.specs.Rules.{Eq, Step, at_top, Steps, go, Meet, Part, renamed}
@@ -23,12 +24,12 @@ use Rattle.books.proofs.Bookish.{is_rule}
 use Rattle.engine.specs.declared.types.Frames.{Frames}
 use Rattle.engine.specs.declared.types.NoRoom.{NoRoom}
 use Rattle.engine.specs.declared.work.Work.{Work}
-use Rattle.engine.specs.Meeting.{Ample, Working, LeftIdle, TwoRoots, Compares}
+use Rattle.engine.specs.Meeting.{Ample, Working, TwoRoots, Compares}
 use Rattle.overlaps.specs.declared.types.Overlap.{Overlap}
 use Rattle.overlaps.specs.declared.types.Pair.{Pair}
-use Rattle.overlaps.specs.Positions.{index, Stands, OverlapIs, OverlapOrNone}
+use Rattle.overlaps.specs.Positions.{index, Stands, OverlapIs}
 use Rattle.overlaps.specs.Pairs.{Results, PairFound}
-use Rattle.overlaps.specs.Verdict.{JoinedBy, Joined, TooLarge, OverlapSays, OneEndSays}
+use Rattle.overlaps.specs.Verdict.{JoinedBy, Joined, TooLarge, OverlapSays}
 use Rattle.overlaps.proofs.Positions.{index_low}
 
 -- the term where the rules meet, and its two results
@@ -119,10 +120,6 @@ module _ (b : Book) (su : Store) (w : Working b su) (o : Overlap) (stands : Stan
     room_large f vs e n (x, inr h, m) =
         (peak_term, x, peak_here f vs e, go second_step (subst (λ (t : Term). Steps (told b).rules t x) held1 h), m)
 
--- no pair: nothing to compare
-pub none_joined : (b : Book) (i j k : ℕ) → OverlapOrNone b i j k None → Joined b i j k
-none_joined b i j k h f vs place e s d = absurd (h f vs place e s d)
-
 module _ {b : Book} {i j k : ℕ} {o : Overlap} {st su : Store} (is : OverlapIs b i j k o) where
   pub never_joined : PairFound b o st su None → Joined b i j k
   never_joined h = subst₂ (λ (x y : ℕ). Joined b x y k) is.outer is.inner
@@ -166,29 +163,12 @@ module _ {b : Book} {i j k : ℕ} {o : Overlap} {st su : Store} (is : OverlapIs 
           room_large b su found.working o is.stands is.stands.place least r results q0 q1 q2 s1 s2 cells f vs is_f n
           (c (still_ample a))
 
-      -- nothing is left over
-      pub idle_again : {v : Work} → LeftIdle b ready v → LeftIdle b before v
-      idle_again d = record {
-        working = d.working;
-        room = d.room ∙ found.room;
-        cells = d.cells ∙ (s2.long ∙ s1.long);
-        words = d.words;
-        none = d.none;
-      }
-
 -- which of the overlaps are joined: all of the rules before the first one; of that one, all with the rules before the second; and with
 -- that one, all before the symbol
 pub record JoinedTo (b : Book) (i j k : ℕ) : Type 0 where
   pub before : (x y z : ℕ) → x < i → y < length (told b).rules → z < size (rule_in b x).left → Joined b x y z
   pub row : (y z : ℕ) → y < j → z < size (rule_in b i).left → Joined b i y z
   pub here : (z : ℕ) → z < k → Joined b i j z
-
-pub joined_none : (b : Book) → JoinedTo b 0 0 0
-joined_none b = record {
-  before = λ x y z l. absurd (omega arith);
-  row = λ y z l. absurd (omega arith);
-  here = λ z l. absurd (omega arith);
-}
 
 pub joined_more : (b : Book) (i j k : ℕ) → JoinedTo b i j k → Joined b i j k → JoinedTo b i j (k + 1)
 joined_more b i j k t h = record { before = t.before; row = t.row; here = below_next (λ z. Joined b i j z) k t.here h }

@@ -1,5 +1,6 @@
 -- Letters in a store, and bindings of them.
-use Rattle.std.proofs.Common.{◌≡◌, ℕ, ◌+◌, ◌<◌, ◌≤◌, ◌-◌, ◌≢◌, List, ◌++◌, length, drop, get_or, set, replicate, Some, None, Option as Maybe, sym, ap, ◌∙◌}
+use Rattle.std.proofs.Common.{◌≡◌, ℕ, ◌+◌, ◌<◌, ◌-◌, ◌≢◌, List, ◌++◌, length, drop, get_or, set, replicate, Some, None, Option as Maybe}
+use Rattle.std.proofs.Common.{sym, ap, ◌∙◌}
 use Rattle.std.proofs.Common.{subst, ⊎_elim, arith, length-set, get_or-drop, get_or-set_other, get_or-set_same}
 use lib.ListN.{get_or-replicate}
 use Rattle.std.proofs.lemmas.List.{get_or_append_left, get_or-append_right, get_or_past}
@@ -9,10 +10,10 @@ use Rattle.rewriting.specs.Overlaps.{fill}
 use Rattle.rewriting.proofs.Replacing.{put_agree, put_letter, put_put, put_fill, fill_agree}
 use Rattle.store.specs.declared.types.Store.{Store}
 use Rattle.store.specs.declared.types.Place.{Place}
-use Rattle.store.specs.Stores.{Sound, Grown, term_in}
+use Rattle.store.specs.Stores.{Grown, term_in}
 use Rattle.store.specs.Making.{LetterShared}
 use Rattle.store.proofs.Cases.{le_or_lt, last_or_below, eq_or}
-use Rattle.store.proofs.Placing.{grown_same, grown_then}
+use Rattle.store.proofs.Placing.{grown_then}
 use Rattle.engine.specs.declared.types.Bindings.{Bindings}
 use Rattle.engine.specs.Matching.{bound, term_or, put_in, AllInside, Bound}
 use Rattle.unification.specs.Unifiers.{LettersBound}
@@ -36,23 +37,13 @@ shifted_by b xs l n e = record {
       (λ k. get_or_past (replicate 16 None) (x - 16) None k) (λ k. get_or-replicate 16 (x - 16) None None k) (le_or_lt 16 (x - 16));
 }
 
--- one letter more in the store
-pub no_letters : (st : Store) (b : Bindings) → Sound st → st.count ≡ 0 → b.at ≡ replicate 32 None → LettersMade 0 st st b
-no_letters st b s z e = record {
-  sound = s;
-  grown = grown_same st;
-  few = omega arith;
-  full = ap length e;
-  low = λ i x l. absurd (omega arith);
-  letters = λ x l. absurd (omega arith);
-}
-
 letter_is : {x y : ℕ} → letter x ≡ letter y → x ≡ y
 letter_is e = cc
 
-pub one_letter : (a : Store) (n : ℕ) (st : Store) (b : Bindings) (su : Store) (p : Place) (c : Bindings) → n < 32 →
-    c.at ≡ set b.at n (Some p) → LettersMade n a st b → LetterShared st n su p → LettersMade (n + 1) a su c
-one_letter a n st b su p c l e m s = record {
+-- one letter more in the store
+pub one_letter : {a st su : Store} {n : ℕ} {b c : Bindings} {p : Place} → n < 32 → c.at ≡ set b.at n (Some p) →
+    LettersMade n a st b → LetterShared st n su p → LettersMade (n + 1) a su c
+one_letter {a} {st} {su} {n} {b} {c} {p} l e m s = record {
   sound = s.sound;
   grown = grown_then a st su m.grown s.grown;
   few = omega (arith, m.few, s.few);

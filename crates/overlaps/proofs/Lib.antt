@@ -1,6 +1,5 @@
 -- Proofs on overlaps.
 pub mod Positions
-pub mod Holes
 pub mod Overlapping
 pub mod Lettering
 pub mod Pairing

@@ -10,13 +10,13 @@ use Rattle.books.specs.declared.row.Book.{Book}
 use Rattle.books.specs.declared.words.Letters.TheVariants.{Small}
 use Rattle.books.specs.Rows.{row}
 use Rattle.books.specs.Reading.{TermEnd}
-use Rattle.books.specs.Books.{told, rule_in, SoundBook}
+use Rattle.books.specs.Books.{told, rule_in, sound_book_in}
 use Rattle.books.proofs.Bookish.{is_rule, rule_sides}
 use Rattle.books.proofs.Glueing.{row_length}
 use Rattle.books.proofs.Unique.{rows_once}
 use Rattle.engine.proofs.Trying.{greater_sign}
 use Rattle.overlaps.specs.Positions.{index, At, SameSign, OverlapIs, OverlapOrNone}
-use Rattle.overlaps.proofs.Positions.{at_index, behind, words_from, word_from}
+use Rattle.overlaps.proofs.Positions.{at_index, behind, words_from, word_from, part_length}
 
 row_once : (ps : List ℕ) (t u : Term) (xs ys : List ℕ) → Over SmallLetter ps t → Over SmallLetter ps u →
     row t ++ xs ≡ row u ++ ys → t ≡ u
@@ -29,36 +29,39 @@ first_sign (letter x) zs n = absurd (n refl)
 first_sign (sign f vs) zs n = (f, vs, refl)
 
 -- a left side has at most 32 symbols
-pub side_short : (b : Book) → SoundBook b → (i : ℕ) → i < length (told b).rules → (ws : List ℕ) → ws ≡ row (rule_in b i).left →
-    length ws ≤ 64
-side_short b sound i low ws e = omega (arith, ap length e, row_length (rule_in b i).left, (rule_sides b sound i low).left_size)
+pub side_short : (b : Book) (i : ℕ) → i < length (told b).rules → {ws : List ℕ} → ws ≡ row (rule_in b i).left → length ws ≤ 64
+side_short b i low e =
+    omega (arith, ap length e, row_length (rule_in b i).left, (rule_sides b (sound_book_in b) i low).left_size)
 
-module _ (b : Book) (sound : SoundBook b) (down : AllDown (rank (told b).ranks) (told b).rules) (i j k : ℕ)
-    (low_i : i < length (told b).rules) (low_j : j < length (told b).rules) (ws vs : List ℕ)
+module _ (b : Book) (down : AllDown (rank (told b).ranks) (told b).rules) (i j k : ℕ)
+    (low : (i < length (told b).rules) × (j < length (told b).rules)) {ws vs : List ℕ}
     (ew : ws ≡ row (rule_in b i).left) (ev : vs ≡ row (rule_in b j).left) where
-  pub left_length : length ws ≡ 2 * size (rule_in b i).left
-  left_length = ap length ew ∙ row_length (rule_in b i).left
-
-  pub other_some : 2 ≤ length vs
-  other_some = omega (arith, ap length ev, row_length (rule_in b j).left, size_some (rule_in b j).left)
-
   -- another sign
   pub other_sign : (SameSign ws (2 * k) vs → ⊥) → OverlapOrNone b i j k None
   other_sign n f us place e s d =
-      let (g, ts, h) = greater_sign (down j (rule_in b j) (is_rule b sound j low_j)) in
+      let (g, ts, h) = greater_sign (down j (rule_in b j) (is_rule b (sound_book_in b) j low.1)) in
       let x : sign f (puts s us) ≡ sign g (puts s (puts (λ x. letter (x + 16)) ts)) = d ∙ ap (λ (t : Term). put s (renamed t)) h in
       let z : f ≡ g = cc in
       let o : 2 * k + 0 ≡ 2 * k = omega arith in
-      let tag = ap (λ (m : ℕ). get_or ws m 0) (sym o) ∙ word_from place ws ew k 0 e in
+      let l = part_length place ws ew in
       n (
-        (λ y. omega (arith, tag)),
-        word_from place ws ew k 1 e ∙ (z ∙ sym (ap (λ (w : List ℕ). get_or w 1 0) (ev ∙ ap row h))),
+        f,
+        (
+          omega (arith, l, e),
+          ap (λ (m : ℕ). get_or ws m 0) (sym o) ∙ word_from place ws ew k 0 e,
+          word_from place ws ew k 1 e,
+        ),
+        (
+          omega (arith, ap length ev, row_length (rule_in b j).left, size_some (rule_in b j).left),
+          ap (λ (w : List ℕ). get_or w 0 0) (ev ∙ ap row h),
+          ap (λ (w : List ℕ). get_or w 1 0) (ev ∙ ap row h) ∙ sym z,
+        ),
       )
 
-  module _ (ps : List ℕ) (ep : ps ≡ (told b).parts) where
+  module _ {ps : List ℕ} (ep : ps ≡ (told b).parts) where
     over_here : {v : Term} → Part v (rule_in b i).left → Over SmallLetter ps v
     over_here {v} place = subst (λ (qs : List ℕ). Over SmallLetter qs v) (sym ep)
-        (over_part (told b).parts SmallLetter place (rule_sides b sound i low_i).left)
+        (over_part (told b).parts SmallLetter place (rule_sides b (sound_book_in b) i low.0).left)
 
     from_here : {v : Term} (place : Part v (rule_in b i).left) → index place ≡ k → row v ++ behind place ≡ drop (2 * k) ws
     from_here place e = sym (words_from place ws ew) ∙ ap (λ (n : ℕ). drop (2 * n) ws) e
@@ -74,9 +77,9 @@ module _ (b : Book) (sound : SoundBook b) (down : AllDown (rank (told b).ranks) 
         record {
           outer = refl;
           inner = refl;
-          stands = record { outer = low_i; inner = low_j; part = v; place = place; at = each v place e };
+          stands = record { outer = low.0; inner = low.1; part = v; place = place; at = each v place e };
           is_sign = first_sign v (behind place)
-              (λ y. g.0 (ap (λ (m : ℕ). get_or ws m 0) (sym d) ∙ (word_from place ws ew k 0 e ∙ y)));
+              (λ y. absurd (omega (arith, g.1.1, ap (λ (m : ℕ). get_or ws m 0) (sym d) ∙ (word_from place ws ew k 0 e ∙ y))));
           each = each;
         }
       where

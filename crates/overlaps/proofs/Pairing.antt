@@ -1,5 +1,5 @@
 -- The least replacement at an overlap, and the two results.
-use Rattle.std.proofs.Common.{◌≡◌, ℕ, ◌+◌, ◌-◌, ◌<◌, ◌≤◌, min, true, false, List, length, take, drop, Some, None, Option as Maybe, sym}
+use Rattle.std.proofs.Common.{◌≡◌, ℕ, ◌+◌, ◌-◌, ◌<◌, ◌≤◌, min, true, false, List, length, take, drop, Some, Option as Maybe, sym}
 use Rattle.std.proofs.Common.{ap, ◌∙◌, subst, subst₂, ⊎_elim, arith}
 use Rattle.rewriting.specs.Terms.{Term, letter, size, In, Over, Fits, SmallLetter}
 use Rattle.rewriting.specs.Rules.{Eq, Part, renamed}
@@ -9,7 +9,7 @@ use Rattle.rewriting.proofs.Signature.{over_fits, over_letters, over_part}
 use Rattle.books.specs.declared.row.Book.{Book}
 use Rattle.books.specs.Rows.{row}
 use Rattle.books.specs.Layouts.{FewParts}
-use Rattle.books.specs.Books.{told, rule_in, SoundBook}
+use Rattle.books.specs.Books.{told, rule_in, sound_book_in}
 use Rattle.books.proofs.Bookish.{rule_sides}
 use Rattle.books.proofs.Building.{book_parts}
 use Rattle.books.proofs.Heads.{head_of}
@@ -39,9 +39,11 @@ pub min_is : (m : ℕ) → 512 ≤ m → min m 512 ≡ 512
 min_is m l = omega arith
 
 -- a row whose letters are below n, of which each is bound
-module _ (b : Book) (sound : SoundBook b) (ps : List ℕ) (ep : ps ≡ (told b).parts) where
+module _ (b : Book) (ps : List ℕ) (ep : ps ≡ (told b).parts) where
   pub few_parts : FewParts ps
-  few_parts = book_parts b.words.now (told b) sound.reads ps (ep ∙ sym (head_of b.words.now (told b) sound.reads).parts)
+  few_parts =
+      let r = (sound_book_in b).reads in
+      book_parts b.words.now (told b) r ps (ep ∙ sym (head_of b.words.now (told b) r).parts)
 
   fillable : (n : ℕ) (t : Term) (ws : List ℕ) (u : Bindings) → n ≤ 32 → Over (λ x. x < n) (told b).parts t → size t ≤ 32 →
       ws ≡ row t → ((x : ℕ) → x < n → Bound u x) → Fillable ps ws u t
@@ -58,7 +60,7 @@ module _ (b : Book) (sound : SoundBook b) (ps : List ℕ) (ep : ps ≡ (told b).
   -- of a rule's left and right side, of a part, and with a hole in place of a part
   module _ (i : ℕ) (low : i < length (told b).rules) (ws : List ℕ) where
     sides : Sides (told b).parts (rule_in b i)
-    sides = rule_sides b sound i low
+    sides = rule_sides b (sound_book_in b) i low
 
     pub left_fillable : (u : Bindings) → ws ≡ row (rule_in b i).left → ((x : ℕ) → x < 16 → Bound u x) →
         Fillable ps ws u (rule_in b i).left
@@ -85,16 +87,16 @@ module _ (b : Book) (sound : SoundBook b) (ps : List ℕ) (ep : ps ≡ (told b).
           (w ∙ at_holed place ws e a z at) h
 
 -- letters of sides
-module _ (b : Book) (sound : SoundBook b) (i : ℕ) (low : i < length (told b).rules) where
+module _ (b : Book) (i : ℕ) (low : i < length (told b).rules) where
   pub left_letters : (x : ℕ) → In x (rule_in b i).left → x < 16
-  left_letters = over_letters (told b).parts SmallLetter (rule_in b i).left (rule_sides b sound i low).left
+  left_letters = over_letters (told b).parts SmallLetter (rule_in b i).left (rule_sides b (sound_book_in b) i low).left
 
   pub right_letters : (x : ℕ) → In x (rule_in b i).right → x < 16
-  right_letters = over_letters (told b).parts SmallLetter (rule_in b i).right (rule_sides b sound i low).right
+  right_letters = over_letters (told b).parts SmallLetter (rule_in b i).right (rule_sides b (sound_book_in b) i low).right
 
   pub part_letters : {v : Term} → Part v (rule_in b i).left → (x : ℕ) → In x v → x < 16
   part_letters {v} place = over_letters (told b).parts SmallLetter v
-      (over_part (told b).parts SmallLetter place (rule_sides b sound i low).left)
+      (over_part (told b).parts SmallLetter place (rule_sides b (sound_book_in b) i low).left)
 
 -- no flags and no notes
 pub fresh_none : (st : Store) → st.count ≡ 0 → Fresh st
@@ -123,8 +125,8 @@ CanFill ps ws u st = (FewParts ps × ((t : Term) × Fillable ps ws u t))
     × ((st.count + 32 ≤ st.limit) × AllInside st u)
 
 -- the letters, the part, and the other left side are made in a cleared store
-module _ {b : Book} {o : Overlap} {st a0 a1 : Store} {ls : Bindings} {ps ws : List ℕ} (sound : SoundBook b) (stands : Stands b o)
-    (em : Emptied st 512 a0) (room : 512 ≤ st.room) (made : LettersMade 32 a0 a1 ls)
+module _ (b : Book) {o : Overlap} {st a0 a1 : Store} {ls : Bindings} {ps ws : List ℕ} (stands : Stands b o) (room : 512 ≤ st.room)
+    (em : Emptied st 512 a0) (made : LettersMade 32 a0 a1 ls)
     (ep : ps ≡ (told b).parts) (ew : ws ≡ row (rule_in b o.outer).left) where
   letters_space : a1.count + 32 ≤ a1.limit
   letters_space = omega (arith, made.few, made.grown.limit, em.limit, min_is st.room room)
@@ -134,12 +136,12 @@ module _ {b : Book} {o : Overlap} {st a0 a1 : Store} {ls : Bindings} {ps ws : Li
 
   part_of : (v : Term) (place : Part v (rule_in b o.outer).left) → At place o.from o.to →
       Fillable ps (take (o.to - o.from) (drop o.from ws)) ls v
-  part_of v place at = part_fillable b sound ps ep o.outer stands.outer ws ew place o.from o.to at ls
+  part_of v place at = part_fillable b ps ep o.outer stands.outer ws ew place o.from o.to at ls
       (λ x l. letter_bound x (omega arith))
 
   pub part_fills : CanFill ps (take (o.to - o.from) (drop o.from ws)) ls a1
   part_fills = (
-    (few_parts b sound ps ep, (stands.part, part_of stands.part stands.place stands.at)),
+    (few_parts b ps ep, (stands.part, part_of stands.part stands.place stands.at)),
     (letters_space, letters_inside a0 a1 ls made),
   )
 
@@ -159,10 +161,10 @@ module _ {b : Book} {o : Overlap} {st a0 a1 : Store} {ls : Bindings} {ps ws : Li
     renamed_inside = shifted_inside ls rs sh a2 (grown_inside a1 a2 ls one.grown (letters_inside a0 a1 ls made))
 
     other_fillable : Fillable qs vs rs (rule_in b o.inner).left
-    other_fillable = left_fillable b sound qs eq o.inner stands.inner vs rs ev (shifted_bound ls rs sh letter_bound)
+    other_fillable = left_fillable b qs eq o.inner stands.inner vs rs ev (shifted_bound ls rs sh letter_bound)
 
     pub other_fills : CanFill qs vs rs a2
-    other_fills = ((few_parts b sound qs eq, ((rule_in b o.inner).left, other_fillable)), (part_space, renamed_inside))
+    other_fills = ((few_parts b qs eq, ((rule_in b o.inner).left, other_fillable)), (part_space, renamed_inside))
 
     module _ {a3 : Store} {other : Place} (built2 : (t : Term) → Fillable qs vs rs t → RowInstanceBuilt a2 rs t a3 other) where
       second : RowInstanceBuilt a2 rs (rule_in b o.inner).left a3 other
@@ -172,7 +174,7 @@ module _ {b : Book} {o : Overlap} {st a0 a1 : Store} {ls : Bindings} {ps ws : Li
       grown3 = grown_then a1 a2 a3 one.grown second.grown
 
       few3 : a3.count ≤ 96
-      few3 = omega (arith, made.few, one.few, second.few, one_small, (rule_sides b sound o.inner stands.inner).left_size)
+      few3 = omega (arith, made.few, one.few, second.few, one_small, (rule_sides b (sound_book_in b) o.inner stands.inner).left_size)
 
       part_there : part.0 < a3.count
       part_there = omega (arith, one.inside, second.grown.longer)
@@ -205,21 +207,21 @@ module _ {b : Book} {o : Overlap} {st a0 a1 : Store} {ls : Bindings} {ps ws : Li
           part_is : (v : Term) (place : Part v (rule_in b o.outer).left) → At place o.from o.to → term_in a3 part.0 ≡ v
           part_is v place at = second.grown.terms part.0 one.inside ∙ ((built v (part_of v place at)).is
               ∙ letters_put a1 ls v made.letters
-              (λ x i. let k = part_letters b sound o.outer stands.outer place x i in omega arith))
+              (λ x i. let k = part_letters b o.outer stands.outer place x i in omega arith))
 
           other_is : term_in a3 other.0 ≡ renamed (rule_in b o.inner).left
           other_is = second.is ∙ renamed_put ls rs sh a2 (rule_in b o.inner).left
-              (letters_grown a1 a2 ls one.grown made.letters) (left_letters b sound o.inner stands.inner)
+              (letters_grown a1 a2 ls one.grown made.letters) (left_letters b o.inner stands.inner)
 
 -- the two results
-module _ {b : Book} {o : Overlap} {st : Store} {u : Bindings} {ps ws : List ℕ} (sound : SoundBook b) (stands : Stands b o)
-    (given : AllGiven st u) (space : st.count + 96 ≤ st.limit)
+module _ (b : Book) {o : Overlap} {st : Store} {u : Bindings} {ps ws : List ℕ} (stands : Stands b o) (given : AllGiven st u)
+    (space : st.count + 96 ≤ st.limit)
     (ep : ps ≡ (told b).parts) (ew : ws ≡ row (rule_in b o.outer).right) where
   outer_fillable : Fillable ps ws u (rule_in b o.outer).right
-  outer_fillable = right_fillable b sound ps ep o.outer stands.outer ws u ew (λ x l. given.all x (omega arith))
+  outer_fillable = right_fillable b ps ep o.outer stands.outer ws u ew (λ x l. given.all x (omega arith))
 
   pub outer_fills : CanFill ps ws u st
-  outer_fills = ((few_parts b sound ps ep, ((rule_in b o.outer).right, outer_fillable)), (omega arith, given.inside))
+  outer_fills = ((few_parts b ps ep, ((rule_in b o.outer).right, outer_fillable)), (omega arith, given.inside))
 
   module _ {a1 : Store} {one : Place} {us : Bindings} {qs vs : List ℕ}
       (built : (t : Term) → Fillable ps ws u t → RowInstanceBuilt st u t a1 one)
@@ -228,17 +230,17 @@ module _ {b : Book} {o : Overlap} {st : Store} {u : Bindings} {ps ws : List ℕ}
     first = built (rule_in b o.outer).right outer_fillable
 
     first_space : a1.count + 64 ≤ a1.limit
-    first_space = omega (arith, first.few, first.grown.limit, (rule_sides b sound o.outer stands.outer).right_size)
+    first_space = omega (arith, first.few, first.grown.limit, (rule_sides b (sound_book_in b) o.outer stands.outer).right_size)
 
     shifted_there : AllInside a1 us
     shifted_there = shifted_inside u us sh a1 (grown_inside st a1 u first.grown given.inside)
 
     inner_fillable : Fillable qs vs us (rule_in b o.inner).right
-    inner_fillable = right_fillable b sound qs eq o.inner stands.inner vs us ev (shifted_bound u us sh given.all)
+    inner_fillable = right_fillable b qs eq o.inner stands.inner vs us ev (shifted_bound u us sh given.all)
 
     pub inner_fills : CanFill qs vs us a1
     inner_fills = (
-      (few_parts b sound qs eq, ((rule_in b o.inner).right, inner_fillable)),
+      (few_parts b qs eq, ((rule_in b o.inner).right, inner_fillable)),
       (omega (arith, first_space), shifted_there),
     )
 
@@ -252,20 +254,22 @@ module _ {b : Book} {o : Overlap} {st : Store} {u : Bindings} {ps ws : List ℕ}
       grown2 = grown_then st a1 a2 first.grown middle.grown
 
       inner_space : a2.count + 32 ≤ a2.limit
-      inner_space = omega (arith, first_space, middle.few, middle.grown.limit, (rule_sides b sound o.inner stands.inner).right_size)
+      inner_space =
+          let s = rule_sides b (sound_book_in b) o.inner stands.inner in
+          omega (arith, first_space, middle.few, middle.grown.limit, s.right_size)
 
       filling_inside : AllInside a2 uh
       filling_inside = hole_inside u inner uh hb a2 middle.inside (grown_inside st a2 u grown2 given.inside)
 
       context_of : (v : Term) (place : Part v (rule_in b o.outer).left) → At place o.from o.to →
           Fillable hs ds uh (fill place letter (letter 16))
-      context_of v place at = hole_fillable b sound hs eh o.outer stands.outer xs ex place o.from o.to at ds uh hole
+      context_of v place at = hole_fillable b hs eh o.outer stands.outer xs ex place o.from o.to at ds uh hole
           (hole_bound u inner uh hb given.all)
 
       pub context_fills : CanFill hs ds uh a2
       context_fills = (
         (
-          few_parts b sound hs eh,
+          few_parts b hs eh,
           (fill stands.place letter (letter 16), context_of stands.part stands.place stands.at),
         ),
         (inner_space, filling_inside),
@@ -285,27 +289,20 @@ module _ {b : Book} {o : Overlap} {st : Store} {u : Bindings} {ps ws : List ℕ}
               second_inside = l.inside;
               first = g.terms one.0 first.inside ∙ first.is;
               second = (built3 (fill place letter (letter 16)) (context_of v place at)).is
-                  ∙ (hole_put u inner uh hb st a2 place grown2 given (left_letters b sound o.outer stands.outer)
+                  ∙ (hole_put u inner uh hb st a2 place grown2 given (left_letters b o.outer stands.outer)
                   ∙ ap (fill place (put_in st u)) (middle.is ∙ shifted_put u us sh st a1 (rule_in b o.inner).right first.grown given
-                  (right_letters b sound o.inner stands.inner)));
+                  (right_letters b o.inner stands.inner)));
             };
           }
 
 -- both together
-pub pair_found : (b : Book) (o : Overlap) (st su sv : Store) (u : Bindings) (r : Pair) → Working b st →
+pub pair_found : {b : Book} {o : Overlap} {st su sv : Store} {u : Bindings} {r : Pair} → Working b st →
     UnifierFound b o st su (Some u) → ResultsBuilt b o su u sv r → PairFound b o st sv (Some r)
-pair_found b o st su sv u r w f m = record {
+pair_found {b} {su = su} {sv} w f m = record {
   working = record {
     down = w.down;
     honest = fresh_honest (told b).rules sv (fresh_grown su sv m.grown f.fresh);
   };
   room = m.grown.room ∙ f.room;
   pair = λ v place at. (least_of (f.unified v place at), m.results v place at);
-}
-
-pub none_found : (b : Book) (o : Overlap) (st su : Store) → Working b st → UnifierFound b o st su None → PairFound b o st su None
-none_found b o st su w f = record {
-  working = record { down = w.down; honest = fresh_honest (told b).rules su f.fresh };
-  room = f.room;
-  pair = λ v place at. f.unified v place at;
 }

@@ -1,9 +1,10 @@
 -- Positions in a term: the number of the symbol in its row where a part starts.
-use Rattle.std.specs.Prelude.{◌≡◌, ℕ, ◌+◌, ◌*◌, ◌<◌, ◌≤◌, List, ◌∷◌, ◌++◌, length, take, drop, Some, None, Option as Maybe, ◌≢◌}
-use Rattle.std.specs.Prelude.{slice_index}
+use Rattle.std.specs.Prelude.{◌≡◌, ℕ, ◌+◌, ◌*◌, ◌<◌, List, ◌∷◌, ◌++◌, length, take, drop, Some, None, Option as Maybe, ◌≢◌}
 use Rattle.rewriting.specs.Terms.{Term, sign, Terms, put, size}
 use Rattle.rewriting.specs.Rules.{Part, itself, in_part, Parts, in_this, in_later, renamed}
 use Rattle.books.specs.declared.row.Book.{Book}
+use Rattle.books.specs.declared.words.Symbol.TheVariants.{Sign}
+use Rattle.books.specs.Reading.{SymbolAt}
 use Rattle.books.specs.Books.{told, rule_in}
 use Rattle.overlaps.specs.declared.types.Overlap.{Overlap}
 
@@ -23,7 +24,7 @@ pub record At {v t : Term} (place : Part v t) (a z : ℕ) : Type 0 where
 
 -- a sign stands at a place, and is the first one of the other words
 abbrev pub SameSign : List ℕ → ℕ → List ℕ → Type 0
-SameSign ws a vs = (slice_index ws a ≢ 0) × (slice_index ws (a + 1) ≡ slice_index vs 1)
+SameSign ws a vs = (f : ℕ) × SymbolAt ws a (Some (Sign f)) × SymbolAt vs 0 (Some (Sign f))
 
 -- two rules, and a part of the first's left side
 pub record Stands (b : Book) (o : Overlap) : Type 0 where

@@ -1,23 +1,23 @@
 // Where the left side of one rule may be put on a part of another's, and what stands around that part.
-ghost use Rattle.std.specs.Prelude.{◌≡◌, ◌+◌, ◌<◌, ◌≤◌, length, slice_index};
-ghost use Rattle.rewriting.specs.Order.{rank};
-ghost use Rattle.rewriting.specs.Order.{AllDown};
+ghost use Rattle.std.specs.Prelude.{◌≡◌, ◌+◌, ◌<◌, ◌≤◌, length};
+ghost use Rattle.rewriting.specs.Order.{rank, AllDown};
 ghost use Rattle.rewriting.specs.Terms.{size};
 ghost use Rattle.rewriting.specs.Answers.{Tells};
-ghost use Rattle.books.specs.Books.{told};
-ghost use Rattle.books.specs.Books.{rule_in};
+ghost use Rattle.books.specs.Books.{told, rule_in};
 ghost use Rattle.overlaps.specs.Positions.{holed, SameSign, OverlapOrNone};
 
 use crate::types::{HOLE, Overlap, Row};
 use books::Book;
-use books::words::{Letters, term_end};
+use books::words::{Letters, Symbol, symbol_at, term_end};
 
 // Whether a sign stands at a place of a row, and is the first one of another row.
 fn same_sign(row: &[u32], at: usize, other: &[u32]) -> bool
-    requires { (at + 2 ≤ length row.now) × (2 ≤ length other.now) }
     ensures { Tells result (SameSign row.now at other.now) }
 {
-    row[at] != 0 && row[at + 1] == other[1]
+    let Some(Symbol::Sign(f)) = symbol_at(row, at) else {
+        return false;
+    };
+    symbol_at(other, 0) == Some(Symbol::Sign(f))
 }
 
 // The overlap at symbol k of rule i's left side, if the sign of rule j's left side stands there.

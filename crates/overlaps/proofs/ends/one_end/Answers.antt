@@ -1,6 +1,5 @@
--- One overlap more; all symbols; all second rules; all rules; or one overlap tells already.
-use Rattle.std.proofs.Common.{◌≡◌, ◌*◌, Bool, Ok, length, sym, ap, ◌∙◌, subst, arith}
-use Rattle.rewriting.specs.Terms.{size}
+-- One overlap more; all symbols; all second rules; all rules.
+use Rattle.std.proofs.Common.{Bool, Ok, length, sym, ap, subst, arith}
 use Rattle.books.specs.Books.{rule_in, sound_book_in}
 use Rattle.books.proofs.Glueing.{row_length}
 use Rattle.overlaps.specs.Verdict.{OneEndSays, OverlapSays}
@@ -8,18 +7,9 @@ use Rattle.overlaps.proofs.Judging.{joined_more, joined_symbols, joined_rules, a
 use Rattle.overlaps.proofs.Going.{idle_then, ample_still}
 use Rattle.overlaps.proofs.ends.one_end.Goals as goal
 
-pub results_meet-requires : goal.results_meet-requires
-results_meet-requires c =
-    let b = c.args.book.now in
-    let d = idle_then (idle_then c.pairs.invariant.idle c.loop-j.invariant.idle) c.loop-k.invariant.idle in
-    let long : length c.left.result.now ≡ 2 * size (rule_in b c.pairs.i).left =
-    ap length c.left.ensures ∙ row_length (rule_in b c.pairs.i).left in
-    let rules = (sound_book_in b).laid.rules in
-    record {
-      working = (d.working, (d.none, (c.requires.1.1.0, ample_still d c.requires.1.1.1)));
-      i_in_bounds = (omega (arith, c.rules-rules.ensures), omega (arith, c.rules-rules.ensures));
-      k_bound = omega arith;
-    }
+pub results_meet-requires-clause-k_bound : goal.results_meet-requires-clause-k_bound
+results_meet-requires-clause-k_bound c =
+    omega (arith, ap length c.left.ensures, row_length (rule_in c.args.book.now c.pairs.i).left)
 
 pub loop-k-preserved : goal.loop-k-preserved
 loop-k-preserved c =
@@ -36,11 +26,10 @@ loop-k-preserved c =
 pub loop-j-preserved : goal.loop-j-preserved
 loop-j-preserved c =
     let b = c.args.book.now in
-    let long : length c.left.result.now ≡ 2 * size (rule_in b c.pairs.i).left =
-    ap length c.left.ensures ∙ row_length (rule_in b c.pairs.i).left in
     record {
       idle = idle_then c.loop-j.invariant.idle c.loop-k.invariant.idle;
-      joined = joined_symbols b c.pairs.i c.loop-j.j c.loop-k.k (omega arith) c.loop-k.invariant.joined;
+      joined = joined_symbols b c.pairs.i c.loop-j.j c.loop-k.k
+          (omega (arith, ap length c.left.ensures, row_length (rule_in b c.pairs.i).left)) c.loop-k.invariant.joined;
       none = c.loop-k.invariant.none;
     }
 
@@ -54,12 +43,9 @@ pairs-preserved c =
       none = c.loop-j.invariant.none;
     }
 
-pub returns-after-pairs : goal.returns-after-pairs
-returns-after-pairs c =
-    let b = c.args.book.now in let w = c.pairs.invariant.idle.working in
-    record {
-      idle = c.pairs.invariant.idle;
-      result = λ n a. subst (λ (x : Bool). OneEndSays b n (Ok x)) (sym c.pairs.invariant.none)
-          (all_joined b c.pairs.i 0 0 (sound_book_in b) w.down (omega (arith, c.rules-rules.ensures, (sound_book_in b).laid.rules))
-          c.pairs.invariant.joined);
-    }
+pub returns-after-pairs-clause-result : goal.returns-after-pairs-clause-result
+returns-after-pairs-clause-result c n a =
+    let b = c.args.book.now in
+    subst (λ (x : Bool). OneEndSays b n (Ok x)) (sym c.pairs.invariant.none)
+    (all_joined b c.pairs.i 0 0 (sound_book_in b) c.pairs.invariant.idle.working.down
+    (omega (arith, c.rules-rules.ensures, (sound_book_in b).laid.rules)) c.pairs.invariant.joined)

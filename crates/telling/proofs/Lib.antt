@@ -1,2 +1,0 @@
--- Lemmas of comparing pairs.
-pub mod Answering
