@@ -1,12 +1,11 @@
 // The places that are still to be matched, and those of terms that are built and not yet parts of another.
-ghost use Rattle.std.specs.Prelude.{◌≡◌, ℕ, ◌+◌, ◌-◌, ◌<◌, ◌≤◌, length, slice_index_or};
+ghost use Rattle.std.specs.Prelude.{◌≡◌, ◌+◌, ◌<◌, ◌≤◌};
 ghost use Rattle.arrayvec.specs.ArrayVec.{array_vec_len};
 ghost use Rattle.store.specs.Stores.{arity_in, parts_in};
 ghost use Rattle.engine.specs.Matching.{PartsPending, PlacesInside, Pushed};
 ghost use Rattle.engine.specs.Building.{Taken};
 
 use crate::types::{Built, Pending};
-use std::array;
 use store::{Node, Place, Store};
 
 // The parts of the sign at a place, the first one last.
@@ -38,33 +37,14 @@ pub fn open(pending: &mut Pending, store: &Store, p: Place, f: u32) -> bool
     }
 }
 
-// The place that is part k of n: the last one is the first part.
-fn part(places: &[Place], n: usize, k: usize) -> Place
-    requires { n ≤ length places.now }
-    ensures { k < n → result ≡ slice_index_or places.now (length places.now - 1 - k) (record { 0 = 0 }) }
-{
-    if k < n {
-        places[places.len() - 1 - k]
-    } else {
-        Place(0)
-    }
-}
-
-// The last n places, to be the parts of a sign.
-fn parts(places: &[Place], n: usize) -> [Place; 4]
-    requires { (n ≤ 4) × (n ≤ length places.now) }
-    ensures { (k : ℕ) → k < n →
-        slice_index_or result k (record { 0 = 0 }) ≡ slice_index_or places.now (length places.now - 1 - k) (record { 0 = 0 }) }
-{
-    array::from_fn(|k| part(places, n, k))
-}
-
-// Takes the last n places, to be the parts of a sign.
+// Takes the last n places, to be the parts of a sign: the last one is the first part.
 pub fn take(built: &mut Built, n: usize) -> [Place; 4]
     requires { (n ≤ 4) × (n ≤ array_vec_len built.old) }
     ensures { Taken built.old.items n result built.new.items }
 {
-    let parts = parts(built.as_slice(), n);
-    built.truncate(built.len() - n);
+    let mut parts = [Place(0); 4];
+    for part in parts[..n].iter_mut() {
+        *part = built.pop().unwrap();
+    }
     parts
 }
