@@ -78,10 +78,6 @@ module _ (st : Store) (q : List Place) (n : ℕ) (xs r : List Place) (t : Taken 
       (inside_below st (take (length q - n) q) (drop (length q - n) q)
       (subst (PlacesInside st) (sym (take-append-drop (length q - n) q)) h))
 
-  pub parts_inside : PlacesInside st q → n ≤ length q → (k : ℕ) → k < n → (get_or xs k zero_place).0 < st.count
-  parts_inside h e k l =
-      subst (λ (p : Place). p.0 < st.count) (sym (t.parts k l)) (h (length q - 1 - k) (omega arith))
-
   -- a sign in the place of its parts
   pub sign_on_top : (f : ℕ) (su : Store) (p : Place) (u : List Place) (vs us : Terms) → SignShared st f xs n su p →
       u ≡ r ++ p ∷ [] → PlacesInside st q → n ≤ length q → count vs ≡ n → stacked st q ≡ glue vs us →

@@ -52,10 +52,7 @@ module _ (st : Store) where
       ap (parts_by (λ j. term_in st j) (λ m. part_in st i m) (k - 1)) e
       ∙ ap (λ (m : ℕ). and1 (term_in st (part_in st i (k - 1))) (parts_by (λ j. term_in st j) (λ m. part_in st i m) m (n - k))) d
 
-  -- nothing pushed yet; the part k in front of those behind it
-  pub pushed_none : (q : List Place) → PlacesInside st q → Pushed st q none1 q
-  pushed_none q h = record { len = omega arith; terms = refl; inside = h }
-
+  -- the part k in front of those behind it
   pub pushed_more : (q r s : List Place) (us : Terms) (p : Place) → Pushed st q us r → s ≡ r ++ p ∷ [] → p.0 < st.count →
       Pushed st q (and1 (term_in st p.0) us) s
   pushed_more q r s us p h o i = subst (Pushed st q (and1 (term_in st p.0) us)) (sym o) (record {

@@ -10,6 +10,12 @@ use Rattle.store.specs.Transfers.{RowOf}
 use Rattle.engine.specs.declared.types.Bindings.{Bindings}
 use Rattle.engine.specs.Matching.{put_in, AllInside, Bound, stacked, PlacesInside}
 
+-- part k of n: the last place is taken, if there is such a part
+pub record PartTaken (q : List Place) (k n : ℕ) (p : Place) (r : List Place) : Type 0 where
+  pub rest : k < n → r ≡ take (length q - 1) q
+  pub part : k < n → p ≡ slice_index_or q (length q - 1) (record { 0 = 0 })
+  pub same : n ≤ k → r ≡ q
+
 -- the last n places are taken, the last one first
 pub record Taken (q : List Place) (n : ℕ) (ps r : List Place) : Type 0 where
   pub rest : r ≡ take (length q - n) q

@@ -3,7 +3,7 @@ ghost use Rattle.std.specs.Prelude.{◌≡◌, ◌+◌, ◌<◌, ◌≤◌};
 ghost use Rattle.arrayvec.specs.ArrayVec.{array_vec_len};
 ghost use Rattle.store.specs.Stores.{arity_in, parts_in};
 ghost use Rattle.engine.specs.Matching.{PartsPending, PlacesInside, Pushed};
-ghost use Rattle.engine.specs.Building.{Taken};
+ghost use Rattle.engine.specs.Building.{PartTaken, Taken};
 
 use crate::types::{Built, Pending};
 use store::{Node, Place, Store};
@@ -37,14 +37,28 @@ pub fn open(pending: &mut Pending, store: &Store, p: Place, f: u32) -> bool
     }
 }
 
+// Part k of n: the next place, which is taken, if there is such a part.
+fn take_part(built: &mut Built, k: usize, n: usize) -> Place
+    requires { k < n → 0 < array_vec_len built.old }
+    ensures { PartTaken built.old.items k n result built.new.items }
+{
+    if k < n {
+        built.pop().unwrap()
+    } else {
+        Place(0)
+    }
+}
+
 // Takes the last n places, to be the parts of a sign: the last one is the first part.
 pub fn take(built: &mut Built, n: usize) -> [Place; 4]
     requires { (n ≤ 4) × (n ≤ array_vec_len built.old) }
     ensures { Taken built.old.items n result built.new.items }
 {
-    let mut parts = [Place(0); 4];
-    for part in parts[..n].iter_mut() {
-        *part = built.pop().unwrap();
-    }
-    parts
+    // Stays four calls: with a loop a run that counts down takes a tenth longer.
+    [
+        take_part(built, 0, n),
+        take_part(built, 1, n),
+        take_part(built, 2, n),
+        take_part(built, 3, n),
+    ]
 }
