@@ -57,8 +57,7 @@ parts_from st ps xs (suc n) j (and1 v vs) us c l h e =
     (λ k a b. let y : length ps + j - 1 - k ≡ length low + (j + 1) - 1 - k = omega arith in
     h k (omega arith) (omega arith) ∙ (ap (λ (d : ℕ). get_or ps d zero_place) y
     ∙ sym (get_or-take m ps (length low + (j + 1) - 1 - k) zero_place (omega arith)))) rest in
-    let w : length low - n ≡ length ps - suc n = omega arith in
-    (
+    let w : length low - n ≡ length ps - suc n = omega arith in (
       ap₂ and1 (ap (λ (p : Place). term_in st p.0) first ∙ top) i.0,
       ap (stacked st) (sym (ap (λ (k : ℕ). take k low) w ∙ take-take (length ps - suc n) m ps (omega arith))) ∙ i.1,
     )

@@ -25,7 +25,7 @@ use Rattle.engine.specs.Matching.{bound, Agrees, term_or, put_in, AllInside, Bou
 use Rattle.engine.specs.Matching.{Instance, Extended, MatchedOn, Pattern}
 use Rattle.engine.specs.Matching.{stacked, PlacesInside, Pushed, PartsPending}
 use Rattle.engine.specs.Matching.{MatchingWith, Matching, MatchesAll, Turned}
-use Rattle.engine.proofs.Pendings.{zero_place, one_more, stacked_more, inside_below, inside_last}
+use Rattle.engine.proofs.Pendings.{one_more, stacked_more, inside_below, inside_last}
 
 -- letters in terms behind terms
 ins_glue : {x : ℕ} (us vs : Terms) → Ins x us ⊎ Ins x vs → Ins x (glue us vs)

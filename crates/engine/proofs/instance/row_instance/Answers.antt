@@ -1,5 +1,5 @@
 -- From no symbol to the whole term.
-use Rattle.std.proofs.Common.{◌≡◌, ℕ, List, get_or, ap, length, sym, ◌∙◌, subst, arith}
+use Rattle.std.proofs.Common.{◌≡◌, ℕ, List, get_or, ap, length, sym, subst, arith}
 use Rattle.store.specs.declared.types.Place.{Place}
 use Rattle.store.proofs.Reading.{symbol_there}
 use Rattle.engine.specs.Building.{RowInstanceBuilt}
