@@ -1,5 +1,5 @@
 -- Building symbol by symbol, from the last to the first: what each turn needs and keeps.
-use Rattle.std.proofs.Common.{◌≡◌, ℕ, zero, suc, ◌+◌, ◌-◌, ◌*◌, ◌<◌, ◌≤◌, ◌⊎◌, List, length, get_or, drop, Option, Some, sym, ap, ◌∙◌}
+use Rattle.std.proofs.Common.{◌≡◌, ℕ, zero, suc, ◌+◌, ◌-◌, ◌*◌, ◌<◌, ◌≤◌, ◌⊎◌, List, [], ◌∷◌, ◌++◌, length, get_or, drop, Option, Some, sym, ap, ◌∙◌}
 use Rattle.std.proofs.Common.{subst, ap₂, inl, inr, ⊎_elim, append-nil, arith, get_or-drop}
 use mathlib.Core.Option.{some}
 use Rattle.rewriting.specs.Terms.{nth, Term, letter, sign, Terms, none1, and1, glue, count, size, sizes}
@@ -23,44 +23,40 @@ use Rattle.store.proofs.Cases.{le_or_lt}
 use Rattle.store.proofs.Placing.{grown_same, grown_then}
 use Rattle.store.proofs.Forests.{after, after_rows, after_over, after_sizes, none_left}
 use Rattle.store.proofs.Reading.{symbols}
-use Rattle.engine.specs.declared.types.Places.{Places}
 use Rattle.engine.specs.declared.types.Bindings.{Bindings}
 use Rattle.engine.specs.Matching.{bound, put_in, AllInside, Bound, stacked, PlacesInside}
-use Rattle.engine.specs.Building.{PutOn, Taken, Fillable, Buildable, SignsAdded, SymbolBuilt, RowInstanceBuilt}
-use Rattle.engine.proofs.Pendings.{zero_place}
-use Rattle.engine.proofs.Builts.{stacked_count, inside_grown, on_top, on_inside, taken_inside, sign_on_top, put_in_bound, put_in_grown}
+use Rattle.engine.specs.Building.{Taken, Fillable, Buildable, SignsAdded, SymbolBuilt, RowInstanceBuilt}
+use Rattle.engine.proofs.Pendings.{zero_place, stacked_more, inside_more}
+use Rattle.engine.proofs.Builts.{stacked_count, inside_grown, taken_inside, sign_on_top, put_in_bound, put_in_grown}
 
 no_letter : {f x : ℕ} {ts : Terms} → sign f ts ≡ letter x → ⊥
 no_letter e = let z : ◌≡◌ {A = ℕ} 0 1 = cc in omega arith
 
 -- the symbol's term is built
-module _ (ps : List ℕ) (num : ℕ) (b : Bindings) (st : Store) (q : Places 32) where
-  pub letter_built : Buildable ps (Letter num) b st q → (p : Place) (r : Places 32) → bound b num ≡ Some p → PutOn q p r →
+module _ (ps : List ℕ) (num : ℕ) (b : Bindings) (st : Store) (q : List Place) where
+  pub letter_built : Buildable ps (Letter num) b st q → (p : Place) (r : List Place) → bound b num ≡ Some p → r ≡ q ++ p ∷ [] →
       SymbolBuilt ps (Letter num) b st q st r
-  letter_built can p r e o =
-      let l : q.len < length q.places = omega (arith, o.all, can.symbol.0) in record {
-        sound = sound_in st;
-        grown = grown_same st;
-        few = omega arith;
-        signs = λ i x l m. absurd (omega arith);
-        inside = on_inside st q p r o l can.inside (can.bound_inside num p e);
-        made = on_top st q p r o l
-            ∙ ap (λ (t : Term). and1 t (stacked st q.places q.len)) (sym (put_in_bound st b num p e));
-      }
+  letter_built can p r e o = record {
+    sound = sound_in st;
+    grown = grown_same st;
+    few = omega arith;
+    signs = λ i x l m. absurd (omega arith);
+    inside = subst (PlacesInside st) (sym o) (inside_more st q p can.inside (can.bound_inside num p e));
+    made = ap (stacked st) o ∙ (stacked_more st q p ∙ ap (λ (t : Term). and1 t (stacked st q)) (sym (put_in_bound st b num p e)));
+  }
 
-  pub sign_built : Buildable ps (Sign num) b st q → (xs : List Place) (r : Places 32) (su : Store) (p : Place) (u : Places 32) →
+  pub sign_built : Buildable ps (Sign num) b st q → (xs r : List Place) (su : Store) (p : Place) (u : List Place) →
       Taken q (get_or ps num 0) xs r → SignShared st num xs (get_or ps num 0) su p →
-      ((i : ℕ) → st.count ≤ i → i < su.count → i ≡ p.0) → PutOn r p u → SymbolBuilt ps (Sign num) b st q su u
-  sign_built can xs r su p u t s new o =
-      let l : r.len < length r.places = omega (arith, o.all, t.len, can.symbol.space) in record {
-        sound = s.sound;
-        grown = s.grown;
-        few = s.few;
-        signs = λ i x l m e. let z : i ≡ p.0 = new i l m in no_letter (sym (ap (λ (n : ℕ). term_in su n) z ∙ s.term) ∙ e);
-        inside = on_inside su r p u o l
-            (inside_grown st su r.places r.len s.grown (taken_inside st q (get_or ps num 0) xs r t can.inside)) s.inside;
-        made = λ vs us c e. sign_on_top st q num (get_or ps num 0) xs r su p u vs us t s o l can.inside c e;
-      }
+      ((i : ℕ) → st.count ≤ i → i < su.count → i ≡ p.0) → u ≡ r ++ p ∷ [] → SymbolBuilt ps (Sign num) b st q su u
+  sign_built can xs r su p u t s new o = record {
+    sound = s.sound;
+    grown = s.grown;
+    few = s.few;
+    signs = λ i x l m e. let z : i ≡ p.0 = new i l m in no_letter (sym (ap (λ (n : ℕ). term_in su n) z ∙ s.term) ∙ e);
+    inside = subst (PlacesInside su) (sym o) (inside_more su r p
+        (inside_grown st su r s.grown (taken_inside st q (get_or ps num 0) xs r t can.inside)) s.inside);
+    made = λ vs us c e. sign_on_top st q (get_or ps num 0) xs r t num su p u vs us s o can.inside can.symbol.enough c e;
+  }
 
 pub signs_then : (a b d : Store) → SignsAdded a b → Grown b d → SignsAdded b d → SignsAdded a d
 signs_then a b d f g h i x l m e =
@@ -98,20 +94,19 @@ word_at ps ws t k i w =
     ∙ get_or-drop (2 * k) ws i 0
 
 -- the symbol can be built, and then the terms from there on are
-pub record Turn (a0 : Store) (ps : List ℕ) (y : Symbol) (b : Bindings) (st : Store) (q : Places 32) (fs : Terms) : Type 0 where
+pub record Turn (a0 : Store) (ps : List ℕ) (y : Symbol) (b : Bindings) (st : Store) (q : List Place) (fs : Terms) : Type 0 where
   pub can : Buildable ps y b st q
-  pub next : (su : Store) (r : Places 32) → SymbolBuilt ps y b st q su r → stacked su r.places r.len ≡ puts (put_in a0 b) fs
+  pub next : (su : Store) (r : List Place) → SymbolBuilt ps y b st q su r → stacked su r ≡ puts (put_in a0 b) fs
 
 module _ (ps : List ℕ) (few : FewParts ps) (a0 : Store) (b : Bindings) (inside0 : AllInside a0 b) (st : Store)
-    (q : Places 32) (grown : Grown a0 st) (inside : PlacesInside st q.places q.len) (short : q.len < 32) where
+    (q : List Place) (grown : Grown a0 st) (inside : PlacesInside st q) (short : length q < 32) where
   still_inside : AllInside st b
   still_inside x p e = let l = inside0 x p e in let m = grown.longer in omega arith
 
-  letter_turn : (x : ℕ) (us : Terms) → x < 32 → Bound b x → stacked st q.places q.len ≡ puts (put_in a0 b) us →
+  letter_turn : (x : ℕ) (us : Terms) → x < 32 → Bound b x → stacked st q ≡ puts (put_in a0 b) us →
       Turn a0 ps (Letter x) b st q (and1 (letter x) us)
   letter_turn x us low (p, e) i = record {
     can = record {
-      short = omega arith;
       inside = inside;
       bound_inside = still_inside;
       symbol = (short, low, (p, e));
@@ -120,16 +115,15 @@ module _ (ps : List ℕ) (few : FewParts ps) (a0 : Store) (b : Bindings) (inside
   }
 
   sign_turn : (f : ℕ) (vs us : Terms) → nth ps f ≡ some (count vs) →
-      stacked st q.places q.len ≡ puts (put_in a0 b) (glue vs us) → Turn a0 ps (Sign f) b st q (and1 (sign f vs) us)
+      stacked st q ≡ puts (put_in a0 b) (glue vs us) → Turn a0 ps (Sign f) b st q (and1 (sign f vs) us)
   sign_turn f vs us o i =
       let s = put_in a0 b in
       let n : get_or ps f 0 ≡ count vs = nth_is ps f (count vs) 0 o in
       let low : f < length ps = nth_below ps f (count vs) o in
-      let c : q.len ≡ count vs + count us =
-      sym (stacked_count st q.places q.len) ∙ ap count i ∙ count_puts s (glue vs us) ∙ count_glue vs us in
+      let c : length q ≡ count vs + count us =
+      sym (stacked_count st q) ∙ ap count i ∙ count_puts s (glue vs us) ∙ count_glue vs us in
       record {
         can = record {
-          short = omega arith;
           inside = inside;
           bound_inside = still_inside;
           symbol = record { within = low; few = few f low; enough = omega arith; space = omega arith };
@@ -141,7 +135,7 @@ module _ (ps : List ℕ) (few : FewParts ps) (a0 : Store) (b : Bindings) (inside
   zero_one e = omega arith
 
   turn_by : (fs : Terms) (y : Symbol) → 0 < sizes fs → AllOver AnyLetter ps fs → ((x : ℕ) → Ins x fs → (x < 32) × Bound b x) →
-      get_or (rows fs) 0 0 ≡ tag y → get_or (rows fs) 1 0 ≡ number y → stacked st q.places q.len ≡ puts (put_in a0 b) (behind fs) →
+      get_or (rows fs) 0 0 ≡ tag y → get_or (rows fs) 1 0 ≡ number y → stacked st q ≡ puts (put_in a0 b) (behind fs) →
       Turn a0 ps y b st q fs
   turn_by none1 y z o k d e i = absurd (omega arith)
   turn_by (and1 (letter x) us) (Letter n) z o k d e i =
@@ -153,20 +147,20 @@ module _ (ps : List ℕ) (few : FewParts ps) (a0 : Store) (b : Bindings) (inside
       subst (λ (v : ℕ). Turn a0 ps (Sign v) b st q (and1 (sign f vs) us)) e (sign_turn f vs us o.0.0 i)
 
 -- from symbol k on the instance of t is built
-pub record SoBuilt (t : Term) (a : Store) (b : Bindings) (k : ℕ) (st : Store) (q : Places 32) : Type 0 where
+pub record SoBuilt (t : Term) (a : Store) (b : Bindings) (k : ℕ) (st : Store) (q : List Place) : Type 0 where
   pub grown : Grown a st
   pub few : st.count + k ≤ a.count + size t
   pub signs : SignsAdded a st
-  pub inside : PlacesInside st q.places q.len
-  pub terms : stacked st q.places q.len ≡ puts (put_in a b) (after k (and1 t none1))
+  pub inside : PlacesInside st q
+  pub terms : stacked st q ≡ puts (put_in a b) (after k (and1 t none1))
 
-pub none_built : (t : Term) (a : Store) (b : Bindings) (k : ℕ) (q : Places 32) → k ≡ size t → q.len ≡ 0 → SoBuilt t a b k a q
+pub none_built : (t : Term) (a : Store) (b : Bindings) (k : ℕ) (q : List Place) → k ≡ size t → q ≡ [] → SoBuilt t a b k a q
 none_built t a b k q e z = record {
   grown = grown_same a;
   few = omega arith;
   signs = λ i x l m. absurd (omega arith);
-  inside = λ d l. absurd (omega arith);
-  terms = ap (stacked a q.places) z
+  inside = λ d l. absurd (omega (arith, ap length z));
+  terms = ap (stacked a) z
       ∙ ap (puts (put_in a b)) (sym (none_left (after k (and1 t none1)) (omega (arith, after_sizes k (and1 t none1) (omega arith)))));
 }
 
@@ -175,12 +169,12 @@ module _ (ps ws : List ℕ) (few : FewParts ps) (t : Term) (a : Store) (b : Bind
   pub symbols_built : length ws ≡ 2 * size t
   symbols_built = symbols f.row
 
-  turn_at : (k : ℕ) (y : Symbol) (st : Store) (q : Places 32) → k < size t → SymbolAt ws (2 * k) (Some y) → SoBuilt t a b (suc k) st q →
+  turn_at : (k : ℕ) (y : Symbol) (st : Store) (q : List Place) → k < size t → SymbolAt ws (2 * k) (Some y) → SoBuilt t a b (suc k) st q →
       Turn a ps y b st q (after k (and1 t none1))
   turn_at k y st q l at s =
       let fs = after k (and1 t none1) in
-      let c : q.len ≡ count (behind fs) =
-      sym (stacked_count st q.places q.len) ∙ ap count s.terms ∙ count_puts (put_in a b) (behind fs) in
+      let c : length q ≡ count (behind fs) =
+      sym (stacked_count st q) ∙ ap count s.terms ∙ count_puts (put_in a b) (behind fs) in
       let z : 2 * k + 0 ≡ 2 * k = omega arith in
       turn_by ps few a b inside st q s.grown s.inside
       (omega (arith, count_sizes (behind fs), after_sizes (suc k) (and1 t none1) (omega arith), f.small))
@@ -189,15 +183,15 @@ module _ (ps ws : List ℕ) (few : FewParts ps) (t : Term) (a : Store) (b : Bind
       (word_at ps ws t k 0 f.row ∙ ap (λ (n : ℕ). get_or ws n 0) z ∙ at.1) (word_at ps ws t k 1 f.row ∙ at.2) s.terms
 
   -- symbol n - 1 is next
-  pub turn : (n : ℕ) (st : Store) (q : Places 32) → 0 < n → n ≤ size t → SoBuilt t a b n st q → (x : Option Symbol) (y : Symbol) →
+  pub turn : (n : ℕ) (st : Store) (q : List Place) → 0 < n → n ≤ size t → SoBuilt t a b n st q → (x : Option Symbol) (y : Symbol) →
       x ≡ Some y → SymbolAt ws (2 * (n - 1)) x → Turn a ps y b st q (after (n - 1) (and1 t none1))
   turn n st q p l s x y same at =
       let e : n ≡ suc (n - 1) = omega arith in
       turn_at (n - 1) y st q (omega arith) (subst (SymbolAt ws (2 * (n - 1))) same at)
       (subst (λ (k : ℕ). SoBuilt t a b k st q) e s)
 
-  pub built_more : (n : ℕ) (st : Store) (q : Places 32) → SoBuilt t a b n st q → 0 < n → {y : Symbol} →
-      Turn a ps y b st q (after (n - 1) (and1 t none1)) → (su : Store) (r : Places 32) → SymbolBuilt ps y b st q su r →
+  pub built_more : (n : ℕ) (st : Store) (q : List Place) → SoBuilt t a b n st q → 0 < n → {y : Symbol} →
+      Turn a ps y b st q (after (n - 1) (and1 t none1)) → (su : Store) (r : List Place) → SymbolBuilt ps y b st q su r →
       SoBuilt t a b (n - 1) su r
   built_more n st q s p turned su r d = record {
     grown = grown_then a st su s.grown d.grown;
@@ -207,10 +201,14 @@ module _ (ps ws : List ℕ) (few : FewParts ps) (t : Term) (a : Store) (b : Bind
     terms = turned.next su r d;
   }
 
-  pub built_all : (st : Store) (q : Places 32) → SoBuilt t a b 0 st q → RowInstanceBuilt a b t st (get_or q.places 0 zero_place)
-  built_all st q s =
-      let c : q.len ≡ 1 = omega (arith, stacked_count st q.places q.len, ap count s.terms) in
-      let e : stacked st q.places 1 ≡ and1 (put (put_in a b) t) none1 = ap (stacked st q.places) (sym c) ∙ s.terms in
+  pub one_built : (st : Store) (q : List Place) → SoBuilt t a b 0 st q → length q ≡ 1
+  one_built st q s = omega (arith, stacked_count st q, ap count s.terms)
+
+  pub built_all : (st : Store) (q : List Place) → SoBuilt t a b 0 st q → RowInstanceBuilt a b t st (get_or q 0 zero_place)
+  built_all st [] s = absurd (omega (arith, one_built st [] s))
+  built_all st (p ∷ _ ∷ ps) s = absurd (omega (arith, one_built st _ s))
+  built_all st (p ∷ []) s =
+      let e : and1 (term_in st p.0) none1 ≡ and1 (put (put_in a b) t) none1 = s.terms in
       record {
         sound = sound_in st;
         grown = s.grown;

@@ -1,93 +1,90 @@
--- Places 32 of built terms: one more, the last ones taken, and a store that grows under them.
-use Rattle.std.proofs.Common.{◌≡◌, ℕ, zero, suc, ◌+◌, ◌-◌, ◌<◌, ◌≤◌, List, length, get_or, Some, sym, refl, ap, ◌∙◌, subst, ap₂, arith}
-use Rattle.rewriting.specs.Terms.{sign, Terms, none1, and1, glue, count}
+-- Places of built terms: the last ones taken, and a store that grows under them.
+use Rattle.std.proofs.Common.{◌≡◌, ℕ, zero, suc, ◌+◌, ◌-◌, ◌<◌, ◌≤◌, List, [], ◌∷◌, ◌++◌, length, get_or, take, drop, Some, sym, refl, ap, ◌∙◌}
+use Rattle.std.proofs.Common.{subst, ap₂, arith, get_or-take, length-take-le, take_all, take-take, take-append-drop}
+use Rattle.std.proofs.lemmas.List.{take_more}
+use Rattle.rewriting.specs.Terms.{Term, sign, Terms, none1, and1, glue, count}
+use Rattle.rewriting.proofs.Glueing.{count_glue}
 use Rattle.store.specs.declared.types.Store.{Store}
 use Rattle.store.specs.declared.types.Place.{Place}
 use Rattle.store.specs.Slots.{parts_by}
 use Rattle.store.specs.Stores.{Grown, term_in}
 use Rattle.store.specs.Making.{terms_at, SignShared}
-use Rattle.engine.specs.declared.types.Places.{Places}
 use Rattle.engine.specs.declared.types.Bindings.{Bindings}
 use Rattle.engine.specs.Matching.{bound, term_or, put_in, AllInside, stacked, PlacesInside}
-use Rattle.engine.specs.Building.{PutOn, Taken}
-use Rattle.engine.proofs.Pendings.{zero_place, stacked_more, inside_more}
+use Rattle.engine.specs.Building.{Taken}
+use Rattle.engine.proofs.Pendings.{zero_place, stacked_more, inside_below}
 
-pub stacked_count : (st : Store) (ps : List Place) (n : ℕ) → count (stacked st ps n) ≡ n
-stacked_count st ps zero = refl
-stacked_count st ps (suc n) = omega (arith, stacked_count st ps n)
+pub stacked_count : (st : Store) (ps : List Place) → count (stacked st ps) ≡ length ps
+stacked_count st [] = refl
+stacked_count st (p ∷ ps) = omega (arith, stacked_count st ps, count_glue (stacked st ps) (and1 (term_in st p.0) none1))
 
 -- a store that has grown
-pub stacked_grown : (st su : Store) (ps : List Place) (n : ℕ) → Grown st su → PlacesInside st ps n → stacked su ps n ≡ stacked st ps n
-stacked_grown st su ps zero g h = refl
-stacked_grown st su ps (suc n) g h =
-    ap₂ and1 (g.terms (get_or ps n zero_place).0 (h n (omega arith))) (stacked_grown st su ps n g (λ d l. h d (omega arith)))
+pub stacked_grown : (st su : Store) (ps : List Place) → Grown st su → PlacesInside st ps → stacked su ps ≡ stacked st ps
+stacked_grown st su [] g h = refl
+stacked_grown st su (p ∷ ps) g h =
+    ap₂ (λ (ts : Terms) (t : Term). glue ts (and1 t none1)) (stacked_grown st su ps g (λ d l. h (suc d) (omega arith)))
+    (g.terms p.0 (h 0 (omega arith)))
 
-pub inside_grown : (st su : Store) (ps : List Place) (n : ℕ) → Grown st su → PlacesInside st ps n → PlacesInside su ps n
-inside_grown st su ps n g h d l = let k = h d l in let m = g.longer in omega arith
+pub inside_grown : (st su : Store) (ps : List Place) → Grown st su → PlacesInside st ps → PlacesInside su ps
+inside_grown st su ps g h d l = let k = h d l in let m = g.longer in omega arith
 
--- one more
-pub on_top : (st : Store) (q : Places 32) (p : Place) (r : Places 32) → PutOn q p r → q.len < length q.places →
-    stacked st r.places r.len ≡ and1 (term_in st p.0) (stacked st q.places q.len)
-on_top st q p r o l =
-    ap₂ (λ (ps : List Place) (n : ℕ). stacked st ps n) o.places o.len ∙ stacked_more st q.places q.len p l
+-- the last of some places, and those below it
+apart : (ps : List Place) (m : ℕ) → length ps ≡ suc m → ps ≡ take m ps ++ get_or ps m zero_place ∷ []
+apart ps m l =
+    let e : m + 1 ≡ suc m = omega arith in
+    sym (take_all (suc m) ps (omega arith)) ∙ (ap (λ (k : ℕ). take k ps) (sym e) ∙ take_more ps m zero_place (omega arith))
 
-pub on_inside : (st : Store) (q : Places 32) (p : Place) (r : Places 32) → PutOn q p r → q.len < length q.places →
-    PlacesInside st q.places q.len → p.0 < st.count → PlacesInside st r.places r.len
-on_inside st q p r o l h i d m =
-    subst (λ (ps : List Place). (get_or ps d zero_place).0 < st.count) (sym o.places)
-    (inside_more st q.places q.len p l h i d (omega (arith, o.len)))
-
--- the last n of m places taken as parts
-parts_from : (st : Store) (ps xs : List Place) (m n j : ℕ) (vs us : Terms) → count vs ≡ n → n ≤ m →
-    ((k : ℕ) → j ≤ k → k < j + n → get_or xs k zero_place ≡ get_or ps (m + j - 1 - k) zero_place) → stacked st ps m ≡ glue vs us →
-    (parts_by (λ i. term_in st i) (λ k. (get_or xs k zero_place).0) j n ≡ vs) × (stacked st ps (m - n) ≡ us)
-parts_from st ps xs m zero j none1 us c l h e = let z : m - 0 ≡ m = omega arith in (refl, ap (stacked st ps) z ∙ e)
-parts_from st ps xs m zero j (and1 v vs) us c l h e = absurd (omega arith)
-parts_from st ps xs m (suc n) j none1 us c l h e = absurd (omega arith)
-parts_from st ps xs zero (suc n) j (and1 v vs) us c l h e = absurd (omega arith)
-parts_from st ps xs (suc m) (suc n) j (and1 v vs) us c l h e =
+-- the last n places taken as parts
+parts_from : (st : Store) (ps xs : List Place) (n j : ℕ) (vs us : Terms) → count vs ≡ n → n ≤ length ps →
+    ((k : ℕ) → j ≤ k → k < j + n → get_or xs k zero_place ≡ get_or ps (length ps + j - 1 - k) zero_place) → stacked st ps ≡ glue vs us →
+    (parts_by (λ i. term_in st i) (λ k. (get_or xs k zero_place).0) j n ≡ vs) × (stacked st (take (length ps - n) ps) ≡ us)
+parts_from st ps xs zero j none1 us c l h e = (refl, ap (stacked st) (take_all (length ps - 0) ps (omega arith)) ∙ e)
+parts_from st ps xs zero j (and1 v vs) us c l h e = absurd (omega arith)
+parts_from st ps xs (suc n) j none1 us c l h e = absurd (omega arith)
+parts_from st ps xs (suc n) j (and1 v vs) us c l h e =
+    let m = length ps - 1 in
+    let low = take m ps in
+    let long : length low ≡ m = length-take-le m ps (omega arith) in
+    let split : stacked st ps ≡ and1 (term_in st (get_or ps m zero_place).0) (stacked st low) =
+    ap (stacked st) (apart ps m (omega arith)) ∙ stacked_more st low (get_or ps m zero_place) in
+    let both : and1 (term_in st (get_or ps m zero_place).0) (stacked st low) ≡ and1 v (glue vs us) = sym split ∙ e in
     let top : term_in st (get_or ps m zero_place).0 ≡ v = cc in
-    let rest : stacked st ps m ≡ glue vs us = cc in
-    let z : suc m + j - 1 - j ≡ m = omega arith in
+    let rest : stacked st low ≡ glue vs us = cc in
+    let z : length ps + j - 1 - j ≡ m = omega arith in
     let first : get_or xs j zero_place ≡ get_or ps m zero_place =
     h j (omega arith) (omega arith) ∙ ap (λ (k : ℕ). get_or ps k zero_place) z in
-    let i = parts_from st ps xs m n (j + 1) vs us (omega arith) (omega arith)
-    (λ k a b. let y : suc m + j - 1 - k ≡ m + (j + 1) - 1 - k = omega arith in
-    h k (omega arith) (omega arith) ∙ ap (λ (d : ℕ). get_or ps d zero_place) y) rest in
-    let w : suc m - suc n ≡ m - n = omega arith in
-    (ap₂ and1 (ap (λ (p : Place). term_in st p.0) first ∙ top) i.0, ap (stacked st ps) w ∙ i.1)
+    let i = parts_from st low xs n (j + 1) vs us (omega arith) (omega arith)
+    (λ k a b. let y : length ps + j - 1 - k ≡ length low + (j + 1) - 1 - k = omega arith in
+    h k (omega arith) (omega arith) ∙ (ap (λ (d : ℕ). get_or ps d zero_place) y
+    ∙ sym (get_or-take m ps (length low + (j + 1) - 1 - k) zero_place (omega arith)))) rest in
+    let w : length low - n ≡ length ps - suc n = omega arith in (
+      ap₂ and1 (ap (λ (p : Place). term_in st p.0) first ∙ top) i.0,
+      ap (stacked st) (sym (ap (λ (k : ℕ). take k low) w ∙ take-take (length ps - suc n) m ps (omega arith))) ∙ i.1,
+    )
 
-pub parts_taken : (st : Store) (q : Places 32) (n : ℕ) (xs : List Place) (r : Places 32) (vs us : Terms) → Taken q n xs r → count vs ≡ n →
-    stacked st q.places q.len ≡ glue vs us → (terms_at st xs n ≡ vs) × (stacked st r.places r.len ≡ us)
-parts_taken st q n xs r vs us t c e =
-    let i = parts_from st q.places xs q.len n 0 vs us c (omega (arith, t.len))
-    (λ k a b. let z : q.len - 1 - k ≡ q.len + 0 - 1 - k = omega arith in
-    t.parts k (omega arith) ∙ ap (λ (d : ℕ). get_or q.places d zero_place) z) e in
-    let l : r.len ≡ q.len - n = omega (arith, t.len) in
-    (i.0, ap₂ (λ (ps : List Place) (m : ℕ). stacked st ps m) t.places l ∙ i.1)
+module _ (st : Store) (q : List Place) (n : ℕ) (xs r : List Place) (t : Taken q n xs r) where
+  pub parts_taken : (vs us : Terms) → n ≤ length q → count vs ≡ n → stacked st q ≡ glue vs us →
+      (terms_at st xs n ≡ vs) × (stacked st r ≡ us)
+  parts_taken vs us l c e =
+      let i = parts_from st q xs n 0 vs us c l
+      (λ k a b. let z : length q - 1 - k ≡ length q + 0 - 1 - k = omega arith in
+      t.parts k (omega arith) ∙ ap (λ (d : ℕ). get_or q d zero_place) z) e in
+      (i.0, ap (stacked st) t.rest ∙ i.1)
 
-pub taken_inside : (st : Store) (q : Places 32) (n : ℕ) (xs : List Place) (r : Places 32) → Taken q n xs r → PlacesInside st q.places
-    q.len →
-    PlacesInside st r.places r.len
-taken_inside st q n xs r t h d l =
-    subst (λ (ps : List Place). (get_or ps d zero_place).0 < st.count) (sym t.places) (h d (omega (arith, t.len)))
+  pub taken_inside : PlacesInside st q → PlacesInside st r
+  taken_inside h =
+      subst (PlacesInside st) (sym t.rest)
+      (inside_below st (take (length q - n) q) (drop (length q - n) q)
+      (subst (PlacesInside st) (sym (take-append-drop (length q - n) q)) h))
 
-pub parts_inside : (st : Store) (q : Places 32) (n : ℕ) (xs : List Place) (r : Places 32) → Taken q n xs r → PlacesInside st q.places
-    q.len →
-    (k : ℕ) → k < n → (get_or xs k zero_place).0 < st.count
-parts_inside st q n xs r t h k l =
-    subst (λ (p : Place). p.0 < st.count) (sym (t.parts k l)) (h (q.len - 1 - k) (omega (arith, t.len)))
-
--- a sign in the place of its parts
-pub sign_on_top : (st : Store) (q : Places 32) (f n : ℕ) (xs : List Place) (r : Places 32) (su : Store) (p : Place) (u : Places 32)
-    (vs us : Terms) →
-    Taken q n xs r → SignShared st f xs n su p → PutOn r p u → r.len < length r.places → PlacesInside st q.places q.len →
-    count vs ≡ n → stacked st q.places q.len ≡ glue vs us → stacked su u.places u.len ≡ and1 (sign f vs) us
-sign_on_top st q f n xs r su p u vs us t s o l h c e =
-    let i = parts_taken st q n xs r vs us t c e in
-    on_top su r p u o l
-    ∙ ap₂ and1 (s.term ∙ ap (sign f) i.0)
-    (stacked_grown st su r.places r.len s.grown (taken_inside st q n xs r t h) ∙ i.1)
+  -- a sign in the place of its parts
+  pub sign_on_top : (f : ℕ) (su : Store) (p : Place) (u : List Place) (vs us : Terms) → SignShared st f xs n su p →
+      u ≡ r ++ p ∷ [] → PlacesInside st q → n ≤ length q → count vs ≡ n → stacked st q ≡ glue vs us →
+      stacked su u ≡ and1 (sign f vs) us
+  sign_on_top f su p u vs us s o h l c e =
+      let i = parts_taken vs us l c e in
+      ap (stacked su) o ∙ (stacked_more su r p
+      ∙ ap₂ and1 (s.term ∙ ap (sign f) i.0) (stacked_grown st su r s.grown (taken_inside h) ∙ i.1))
 
 -- what is put for letters stays
 pub put_in_bound : (st : Store) (b : Bindings) (x : ℕ) (p : Place) → bound b x ≡ Some p → put_in st b x ≡ term_in st p.0

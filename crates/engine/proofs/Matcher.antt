@@ -1,7 +1,9 @@
 -- Matching symbol by symbol: what each turn keeps, and why it stops.
-use Rattle.std.proofs.Common.{◌≡◌, ℕ, zero, suc, ◌+◌, ◌*◌, ◌<◌, ◌≤◌, Bool, true, false, ◌≢◌, ◌⊎◌, List, ◌∷◌, length, get_or, drop}
+use Rattle.std.proofs.Common.{◌≡◌, ℕ, zero, suc, ◌+◌, ◌*◌, ◌<◌, ◌≤◌, Bool, true, false, ◌≢◌, ◌⊎◌, List, [], ◌∷◌, ◌++◌, length, get_or, drop}
 use Rattle.std.proofs.Common.{set, replicate, Some, None, Option as Maybe, sym, refl, ap, ◌∙◌, subst, ap₂, inl, inr, append-nil, arith}
 use Rattle.std.proofs.Common.{length-drop, length-set, get_or-drop, get_or-set_other, get_or-set_same, drop-drop}
+use Rattle.std.proofs.lemmas.List.{nil_from_length}
+use Rattle.std.specs.Option.{option_to_list}
 use mathlib.Core.Option.{some}
 use native.Mathlib.Decide.{ℕ_discrete}
 use Rattle.rewriting.specs.Terms.{Term, letter, sign, Terms, none1, and1, glue, count, sizes}
@@ -18,14 +20,12 @@ use Rattle.books.proofs.Forests.{opened, behind_sizes, behind_rows, behind_over}
 use Rattle.store.specs.declared.types.Store.{Store}
 use Rattle.store.specs.declared.types.Place.{Place}
 use Rattle.store.specs.Stores.{term_in}
-use Rattle.engine.specs.declared.types.Places.{Places}
 use Rattle.engine.specs.declared.types.Bindings.{Bindings}
 use Rattle.engine.specs.Matching.{bound, Agrees, term_or, put_in, AllInside, Bound, BoundNow, nothing}
 use Rattle.engine.specs.Matching.{Instance, Extended, MatchedOn, Pattern}
-use Rattle.engine.specs.Matching.{stacked, PlacesInside, Single, Popped, Pushed, PartsPending}
+use Rattle.engine.specs.Matching.{stacked, PlacesInside, Pushed, PartsPending}
 use Rattle.engine.specs.Matching.{MatchingWith, Matching, MatchesAll, Turned}
-use Rattle.engine.specs.Building.{PutOn}
-use Rattle.engine.proofs.Pendings.{zero_place}
+use Rattle.engine.proofs.Pendings.{one_more, stacked_more, inside_below, inside_last}
 
 -- letters in terms behind terms
 ins_glue : {x : ℕ} (us vs : Terms) → Ins x us ⊎ Ins x vs → Ins x (glue us vs)
@@ -86,7 +86,7 @@ abbrev first_symbol : Term → Symbol
 first_symbol (letter x) = Letter x
 first_symbol (sign f us) = Sign f
 
-module _ (ps ws : List ℕ) (b0 : Bindings) (l t : Term) (st : Store) (a : ℕ) (q : Places 36) (b : Bindings) where
+module _ (ps ws : List ℕ) (b0 : Bindings) (l t : Term) (st : Store) (a : ℕ) (q : List Place) (b : Bindings) where
   -- the words of the first pattern, and those behind them
   words_first : (u : Term) (us : Terms) → MatchingWith ps ws b0 l t st a q b (and1 u us) →
       drop a ws ≡ tag (first_symbol u) ∷ number (first_symbol u) ∷ rows (opened u us)
@@ -113,36 +113,34 @@ module _ (ps ws : List ℕ) (b0 : Bindings) (l t : Term) (st : Store) (a : ℕ) 
   over_next : (u : Term) (us : Terms) → MatchingWith ps ws b0 l t st a q b (and1 u us) → AllOver SmallLetter ps (opened u us)
   over_next u us m = behind_over SmallLetter ps (and1 u us) m.over
 
-  module _ (p : Place) (r : Places 36) (pop : Popped q p r)
+  module _ (p : Place) (r : List Place) (pop : q ≡ r ++ p ∷ [])
       (one_place : (i j : ℕ) → i < st.count → j < st.count → term_in st i ≡ term_in st j → i ≡ j) where
     -- the next pending term, and the others
-    pending_first : stacked st q.places q.len ≡ and1 (term_in st p.0) (stacked st r.places r.len)
-    pending_first =
-        let n : q.len ≡ suc r.len = omega (arith, pop.len) in
-        ap (stacked st q.places) n
-        ∙ ap₂ (λ (x : Place) (ts : Terms). and1 (term_in st x.0) ts) (sym pop.place)
-        (ap (λ (xs : List Place). stacked st xs r.len) (sym pop.places))
+    longer : length q ≡ length r + 1
+    longer = ap length pop ∙ one_more r p
 
-    pending_inside : (us : Terms) → MatchingWith ps ws b0 l t st a q b us → PlacesInside st r.places r.len
-    pending_inside us m d h =
-        subst (λ (xs : List Place). (get_or xs d zero_place).0 < st.count) (sym pop.places) (m.inside d (omega (arith, pop.len)))
+    pending_first : stacked st q ≡ and1 (term_in st p.0) (stacked st r)
+    pending_first = ap (stacked st) pop ∙ stacked_more st r p
+
+    pending_inside : (us : Terms) → MatchingWith ps ws b0 l t st a q b us → PlacesInside st r
+    pending_inside us m = inside_below st r (p ∷ []) (subst (PlacesInside st) pop m.inside)
 
     place_inside : (us : Terms) → MatchingWith ps ws b0 l t st a q b us → p.0 < st.count
-    place_inside us m = subst (λ (x : Place). x.0 < st.count) (sym pop.place) (m.inside r.len (omega (arith, pop.len)))
+    place_inside us m = inside_last st r p (subst (PlacesInside st) pop m.inside)
 
     both_fit : (us : Terms) → MatchingWith ps ws b0 l t st a q b us →
-        AllOver AnyLetter ps (and1 (term_in st p.0) (stacked st r.places r.len))
+        AllOver AnyLetter ps (and1 (term_in st p.0) (stacked st r))
     both_fit us m = subst (AllOver AnyLetter ps) pending_first m.fit
 
     -- what is put makes the first pattern the next term, and the others the other terms
-    first_is : (s : ℕ → Term) (u : Term) (us : Terms) → puts s (and1 u us) ≡ stacked st q.places q.len →
-        (put s u ≡ term_in st p.0) × (puts s us ≡ stacked st r.places r.len)
+    first_is : (s : ℕ → Term) (u : Term) (us : Terms) → puts s (and1 u us) ≡ stacked st q →
+        (put s u ≡ term_in st p.0) × (puts s us ≡ stacked st r)
     first_is s u us e =
-        let d : and1 (put s u) (puts s us) ≡ and1 (term_in st p.0) (stacked st r.places r.len) = e ∙ pending_first in
+        let d : and1 (put s u) (puts s us) ≡ and1 (term_in st p.0) (stacked st r) = e ∙ pending_first in
         (cc, cc)
 
-    first_of : (s : ℕ → Term) (u : Term) (us : Terms) → put s u ≡ term_in st p.0 → puts s us ≡ stacked st r.places r.len →
-        puts s (and1 u us) ≡ stacked st q.places q.len
+    first_of : (s : ℕ → Term) (u : Term) (us : Terms) → put s u ≡ term_in st p.0 → puts s us ≡ stacked st r →
+        puts s (and1 u us) ≡ stacked st q
     first_of s u us d e = ap₂ and1 d e ∙ sym pending_first
 
     -- a letter
@@ -152,7 +150,7 @@ module _ (ps ws : List ℕ) (b0 : Bindings) (l t : Term) (st : Store) (a : ℕ) 
       over = m.over.1;
       written = words_next (letter x) us m;
       long = long_next (letter x) us m;
-      counted = omega (arith, m.counted, pop.len);
+      counted = omega (arith, m.counted, longer);
       inside = pending_inside (and1 (letter x) us) m;
       fit = (both_fit (and1 (letter x) us) m).1;
       full = m.full;
@@ -175,7 +173,7 @@ module _ (ps ws : List ℕ) (b0 : Bindings) (l t : Term) (st : Store) (a : ℕ) 
           over = m.over.1;
           written = words_next (letter x) us m;
           long = long_next (letter x) us m;
-          counted = omega (arith, m.counted, pop.len);
+          counted = omega (arith, m.counted, longer);
           inside = pending_inside (and1 (letter x) us) m;
           fit = (both_fit (and1 (letter x) us) m).1;
           full = ap length e ∙ (length-set b.at x (Some p) ∙ m.full);
@@ -203,16 +201,16 @@ module _ (ps ws : List ℕ) (b0 : Bindings) (l t : Term) (st : Store) (a : ℕ) 
         let d : some (count vs) ≡ some (count ts) = sym m.over.0.0 ∙ h.0 in
         cc
 
-    parts_next : (f : ℕ) (vs us ts : Terms) (r2 : Places 36) → MatchingWith ps ws b0 l t st a q b (and1 (sign f vs) us) →
+    parts_next : (f : ℕ) (vs us ts : Terms) (r2 : List Place) → MatchingWith ps ws b0 l t st a q b (and1 (sign f vs) us) →
         term_in st p.0 ≡ sign f ts → Pushed st r ts r2 → MatchingWith ps ws b0 l t st (a + 2) r2 b (glue vs us)
     parts_next f vs us ts r2 m e d = record {
       over = over_next (sign f vs) us m;
       written = words_next (sign f vs) us m;
       long = long_next (sign f vs) us m;
-      counted = omega (arith, m.counted, pop.len, d.len, count_glue vs us, counts);
+      counted = omega (arith, m.counted, longer, d.len, count_glue vs us, counts);
       inside = d.inside;
       fit = subst (AllOver AnyLetter ps) (sym d.terms)
-          (over_glue AnyLetter ps ts (stacked st r.places r.len) fit_parts.1 (both_fit (and1 (sign f vs) us) m).1);
+          (over_glue AnyLetter ps ts (stacked st r) fit_parts.1 (both_fit (and1 (sign f vs) us) m).1);
       full = m.full;
       bound_inside = m.bound_inside;
       enough = λ s h g. (let k = split s g in m.enough s h (first_of s (sign f vs) us (ap (sign f) k.0 ∙ sym e) k.1));
@@ -226,13 +224,13 @@ module _ (ps ws : List ℕ) (b0 : Bindings) (l t : Term) (st : Store) (a : ℕ) 
         fit_parts : Over AnyLetter ps (sign f ts)
         fit_parts = subst (Over AnyLetter ps) e (both_fit (and1 (sign f vs) us) m).0
 
-        split : (s : ℕ → Term) → puts s (glue vs us) ≡ stacked st r2.places r2.len →
-            (puts s vs ≡ ts) × (puts s us ≡ stacked st r.places r.len)
-        split s g = glue_apart (puts s vs) ts (puts s us) (stacked st r.places r.len) (count_puts s vs ∙ counts)
+        split : (s : ℕ → Term) → puts s (glue vs us) ≡ stacked st r2 →
+            (puts s vs ≡ ts) × (puts s us ≡ stacked st r)
+        split s g = glue_apart (puts s vs) ts (puts s us) (stacked st r) (count_puts s vs ∙ counts)
             (sym (puts_glue s vs us) ∙ (g ∙ d.terms))
 
-        join : (s : ℕ → Term) → put s (sign f vs) ≡ term_in st p.0 → puts s us ≡ stacked st r.places r.len →
-            puts s (glue vs us) ≡ stacked st r2.places r2.len
+        join : (s : ℕ → Term) → put s (sign f vs) ≡ term_in st p.0 → puts s us ≡ stacked st r →
+            puts s (glue vs us) ≡ stacked st r2
         join s g h =
             let k : sign f (puts s vs) ≡ sign f ts = g ∙ e in
             let i : puts s vs ≡ ts = cc in
@@ -244,7 +242,7 @@ module _ (ps ws : List ℕ) (b0 : Bindings) (l t : Term) (st : Store) (a : ℕ) 
         seen y (inr (there i)) = inr (ins_glue vs us (inr i))
 
     no_patterns : MatchingWith ps ws b0 l t st a q b none1 → ⊥
-    no_patterns m = omega (arith, m.counted, pop.len)
+    no_patterns m = omega (arith, m.counted, longer)
 
     -- a turn at a letter
     letter_with : (x : ℕ) (c : Bindings) → x < 32 → (res : Bool) → BoundNow b x p c res → (us : Terms) →
@@ -258,7 +256,7 @@ module _ (ps ws : List ℕ) (b0 : Bindings) (l t : Term) (st : Store) (a : ℕ) 
         ne (one_place o.0 p.0 (m.bound_inside x o k) (place_inside (and1 (letter x) us) m) d)
 
     -- a turn at a sign
-    sign_with : (f : ℕ) (r2 : Places 36) (res : Bool) → PartsPending st p f r r2 res → (vs us : Terms) →
+    sign_with : (f : ℕ) (r2 : List Place) (res : Bool) → PartsPending st p f r r2 res → (vs us : Terms) →
         MatchingWith ps ws b0 l t st a q b (and1 (sign f vs) us) → Turned ps ws b0 l t st (a + 2) r2 b res
     sign_with f r2 true (ts, e, d) vs us m = (glue vs us, parts_next f vs us ts r2 m e d)
     sign_with f r2 false none_there vs us m = λ s g0 e.
@@ -281,7 +279,7 @@ module _ (ps ws : List ℕ) (b0 : Bindings) (l t : Term) (st : Store) (a : ℕ) 
         omega (arith, m.over.0, (here_symbol (letter z) us m).2, y.2)
     large_letter x y high (and1 (sign g vs) us, m) = zero_one (sym y.1 ∙ (here_symbol (sign g vs) us m).1)
 
-    pub sign_turn : (f : ℕ) → SymbolAt ws a (Some (Sign f)) → (r2 : Places 36) (res : Bool) → PartsPending st p f r r2 res →
+    pub sign_turn : (f : ℕ) → SymbolAt ws a (Some (Sign f)) → (r2 : List Place) (res : Bool) → PartsPending st p f r r2 res →
         Matching ps ws b0 l t st a q b → Turned ps ws b0 l t st (a + 2) r2 b res
     sign_turn f y r2 res h (none1, m) = absurd (no_patterns m)
     sign_turn f y r2 res h (and1 (letter z) us, m) = absurd (zero_one (sym (here_symbol (letter z) us m).1 ∙ y.1))
@@ -294,7 +292,11 @@ module _ (ps ws : List ℕ) (b0 : Bindings) (l t : Term) (st : Store) (a : ℕ) 
     no_turn y (and1 (letter z) us, m) = let h = here_symbol (letter z) us m in omega (arith, y h.0, h.1)
     no_turn y (and1 (sign g vs) us, m) = let h = here_symbol (sign g vs) us m in omega (arith, y h.0, h.1)
 
-pub of_place : (ws : List ℕ) (b0 : Bindings) (st : Store) (x y : Place) (a : ℕ) (q : Places 36) (b : Bindings) → x ≡ y →
+-- the next place, and those below it
+pub next_place : (q r : List Place) (o : Maybe Place) (p : Place) → q ≡ r ++ option_to_list o → o ≡ Some p → q ≡ r ++ p ∷ []
+next_place q r o p h e = h ∙ ap (λ (x : Maybe Place). r ++ option_to_list x) e
+
+pub of_place : (ws : List ℕ) (b0 : Bindings) (st : Store) (x y : Place) (a : ℕ) (q : List Place) (b : Bindings) → x ≡ y →
     MatchesAll ws b0 st x a q b → MatchesAll ws b0 st y a q b
 of_place ws b0 st x y a q b e = subst (λ (p : Place). MatchesAll ws b0 st p a q b) e
 
@@ -332,19 +334,15 @@ pub none_first : (st : Store) (l t : Term) → MatchedOn st nothing l t None →
 none_first st l t m s e = m s (λ x r k. absurd (unbound x r k)) e
 
 -- one place on none
-pub only_one : (q r : Places 36) (p : Place) → q.len ≡ 0 → PutOn q p r → Single r p
-only_one q r p z o = record {
-  len = omega (arith, o.len);
-  place = ap (λ (ps : List Place). get_or ps 0 zero_place) (o.places ∙ ap (λ (n : ℕ). set q.places n p) z)
-      ∙ get_or-set_same q.places 0 p zero_place (omega (arith, o.all));
-}
+pub only_one : (q r : List Place) (p : Place) → q ≡ [] → r ≡ q ++ p ∷ [] → r ≡ p ∷ []
+only_one q r p z o = o ∙ ap (λ (ps : List Place). ps ++ p ∷ []) z
 
 -- the start: the whole pattern, and one place
-module _ (ps ws : List ℕ) (l : Term) (st : Store) (p : Place) (q : Places 36) (b : Bindings)
-    (pattern : Pattern ps ws l st p) (low : p.0 < st.count) (single : Single q p)
+module _ (ps ws : List ℕ) (l : Term) (st : Store) (p : Place) (q : List Place) (b : Bindings)
+    (pattern : Pattern ps ws l st p) (low : p.0 < st.count) (single : q ≡ p ∷ [])
     (full : length b.at ≡ 32) (bound-low : AllInside st b) where
-  one_pending : stacked st q.places q.len ≡ and1 (term_in st p.0) none1
-  one_pending = ap (stacked st q.places) single.len ∙ ap (λ (r : Place). and1 (term_in st r.0) none1) single.place
+  one_pending : stacked st q ≡ and1 (term_in st p.0) none1
+  one_pending = ap (stacked st) single
 
   pub match_start : Matching ps ws b l (term_in st p.0) st 0 q b
   match_start = (
@@ -353,8 +351,8 @@ module _ (ps ws : List ℕ) (l : Term) (st : Store) (p : Place) (q : Places 36) 
       over = (pattern.over, tt);
       written = pattern.written ∙ sym (append-nil (row l));
       long = omega (arith, ap length pattern.written, row_length l);
-      counted = sym single.len;
-      inside = λ d h. inside d (omega (arith, single.len));
+      counted = sym (ap length single);
+      inside = subst (PlacesInside st) (sym single) inside;
       fit = subst (AllOver AnyLetter ps) (sym one_pending) (pattern.fits, tt);
       full = full;
       bound_inside = bound-low;
@@ -364,15 +362,15 @@ module _ (ps ws : List ℕ) (l : Term) (st : Store) (p : Place) (q : Places 36) 
     },
   )
     where
-      inside : (d : ℕ) → d < 1 → (get_or q.places d zero_place).0 < st.count
-      inside zero h = subst (λ (r : Place). r.0 < st.count) (sym single.place) low
+      inside : PlacesInside st (p ∷ [])
+      inside zero h = low
       inside (suc d) h = absurd (omega arith)
 
 -- the end: no symbol is left
-module _ (ps ws : List ℕ) (b0 : Bindings) (l t : Term) (st : Store) (a : ℕ) (q : Places 36) (b : Bindings) where
+module _ (ps ws : List ℕ) (b0 : Bindings) (l t : Term) (st : Store) (a : ℕ) (q : List Place) (b : Bindings) where
   all_matched : MatchingWith ps ws b0 l t st a q b none1 → Extended st b0 l t b
   all_matched m = record {
-    enough = λ s h. m.enough s h (sym (ap (stacked st q.places) (sym m.counted)));
+    enough = λ s h. m.enough s h (sym (ap (stacked st) (nil_from_length q (sym m.counted))));
     needed = λ s h e. (m.needed s h e).0;
     letters = λ x i. bound_at x (m.letters x i);
     full = m.full;
@@ -393,6 +391,6 @@ module _ (ps ws : List ℕ) (b0 : Bindings) (l t : Term) (st : Store) (a : ℕ) 
   some_left (and1 u us) h = omega arith
 
   pub match_room : length ws ≤ 64 → a < length ws → Matching ps ws b0 l t st a q b →
-      (0 < q.len) × (q.len ≤ 32) × PlacesInside st q.places q.len
+      (0 < length q) × (length q ≤ 32) × PlacesInside st q
   match_room k g (us, m) =
       (omega (arith, m.counted, some_left us (omega (arith, m.long))), omega (arith, m.counted, m.long, count_sizes us), m.inside)

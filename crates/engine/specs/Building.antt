@@ -1,5 +1,5 @@
 -- Building instances of terms from their rows, from the last symbol to the first.
-use Rattle.std.specs.Prelude.{◌≡◌, ℕ, ◌+◌, ◌-◌, ◌<◌, ◌≤◌, List, length, get_or, ◌≢◌, slice_index, slice_index_or, slice_set}
+use Rattle.std.specs.Prelude.{◌≡◌, ℕ, ◌+◌, ◌-◌, ◌<◌, ◌≤◌, List, length, get_or, ◌≢◌, slice_index, slice_index_or, take}
 use Rattle.rewriting.specs.Terms.{Term, letter as letter1, sign as sign1, Terms, and1, glue, count, size, put, In}
 use Rattle.books.specs.declared.words.Symbol.{Symbol}
 use Rattle.books.specs.declared.words.Symbol.TheVariants.{Letter, Sign}
@@ -8,20 +8,18 @@ use Rattle.store.specs.declared.types.Place.{Place}
 use Rattle.store.specs.Stores.{Sound, Grown, term_in}
 use Rattle.store.specs.Transfers.{RowOf}
 use Rattle.engine.specs.declared.types.Bindings.{Bindings}
-use Rattle.engine.specs.declared.types.Places.{Places}
 use Rattle.engine.specs.Matching.{put_in, AllInside, Bound, stacked, PlacesInside}
 
--- one more of at most as many places as there are
-pub record PutOn {cap : ℕ} (q : Places cap) (p : Place) (r : Places cap) : Type 0 where
-  pub all : length q.places ≡ cap
-  pub places : r.places ≡ slice_set q.places q.len p
-  pub len : r.len ≡ q.len + 1
+-- part k of n: the last place is taken, if there is such a part
+pub record PartTaken (q : List Place) (k n : ℕ) (p : Place) (r : List Place) : Type 0 where
+  pub rest : k < n → r ≡ take (length q - 1) q
+  pub part : k < n → p ≡ slice_index_or q (length q - 1) (record { 0 = 0 })
+  pub same : n ≤ k → r ≡ q
 
 -- the last n places are taken, the last one first
-pub record Taken {cap : ℕ} (q : Places cap) (n : ℕ) (ps : List Place) (r : Places cap) : Type 0 where
-  pub places : r.places ≡ q.places
-  pub len : r.len + n ≡ q.len
-  pub parts : (k : ℕ) → k < n → slice_index_or ps k (record { 0 = 0 }) ≡ slice_index_or q.places (q.len - 1 - k) (record { 0 = 0 })
+pub record Taken (q : List Place) (n : ℕ) (ps r : List Place) : Type 0 where
+  pub rest : r ≡ take (length q - n) q
+  pub parts : (k : ℕ) → k < n → slice_index_or ps k (record { 0 = 0 }) ≡ slice_index_or q (length q - 1 - k) (record { 0 = 0 })
 
 -- each letter of a term is bound
 abbrev pub AllBound : Bindings → Term → Type 0
@@ -35,21 +33,20 @@ pub record Fillable (ps ws : List ℕ) (b : Bindings) (t : Term) : Type 0 where
   pub bound : AllBound b t
 
 -- the sign f has parts enough among the terms that are built
-pub record PartsBuilt (ps : List ℕ) (f : ℕ) (q : Places 32) : Type 0 where
+pub record PartsBuilt (ps : List ℕ) (f : ℕ) (q : List Place) : Type 0 where
   pub within : f < length ps
   pub few : get_or ps f 0 ≤ 4
-  pub enough : get_or ps f 0 ≤ q.len
-  pub space : q.len < 32 + slice_index ps f
+  pub enough : get_or ps f 0 ≤ length q
+  pub space : length q < 32 + slice_index ps f
 
 -- what the symbol wants: a letter is bound, and a sign has its parts
-abbrev pub Wants : List ℕ → Symbol → Bindings → Places 32 → Type 0
-Wants ps (Letter x) b q = (q.len < 32) × (x < 32) × Bound b x
+abbrev pub Wants : List ℕ → Symbol → Bindings → List Place → Type 0
+Wants ps (Letter x) b q = (length q < 32) × (x < 32) × Bound b x
 Wants ps (Sign f) b q = PartsBuilt ps f q
 
 -- the symbol y can be built
-pub record Buildable (ps : List ℕ) (y : Symbol) (b : Bindings) (st : Store) (q : Places 32) : Type 0 where
-  pub short : q.len ≤ 32
-  pub inside : PlacesInside st q.places q.len
+pub record Buildable (ps : List ℕ) (y : Symbol) (b : Bindings) (st : Store) (q : List Place) : Type 0 where
+  pub inside : PlacesInside st q
   pub bound_inside : AllInside st b
   pub symbol : Wants ps y b q
 
@@ -58,18 +55,18 @@ abbrev pub SignsAdded : Store → Store → Type 0
 SignsAdded st su = (i x : ℕ) → st.count ≤ i → i < su.count → term_in su i ≢ letter1 x
 
 -- one more term: what is put for a letter, or a sign with the next terms as parts
-abbrev pub TermMade : List ℕ → Symbol → Bindings → Store → Places 32 → Store → Places 32 → Type 0
-TermMade ps (Letter x) b st q su r = stacked su r.places r.len ≡ and1 (put_in st b x) (stacked st q.places q.len)
+abbrev pub TermMade : List ℕ → Symbol → Bindings → Store → List Place → Store → List Place → Type 0
+TermMade ps (Letter x) b st q su r = stacked su r ≡ and1 (put_in st b x) (stacked st q)
 TermMade ps (Sign f) b st q su r = (vs us : Terms) → count vs ≡ slice_index ps f →
-    stacked st q.places q.len ≡ glue vs us → stacked su r.places r.len ≡ and1 (sign1 f vs) us
+    stacked st q ≡ glue vs us → stacked su r ≡ and1 (sign1 f vs) us
 
 -- the symbol y is built
-pub record SymbolBuilt (ps : List ℕ) (y : Symbol) (b : Bindings) (st : Store) (q : Places 32) (su : Store) (r : Places 32) : Type 0 where
+pub record SymbolBuilt (ps : List ℕ) (y : Symbol) (b : Bindings) (st : Store) (q : List Place) (su : Store) (r : List Place) : Type 0 where
   pub sound : Sound su
   pub grown : Grown st su
   pub few : su.count ≤ st.count + 1
   pub signs : SignsAdded st su
-  pub inside : PlacesInside su r.places r.len
+  pub inside : PlacesInside su r
   pub made : TermMade ps y b st q su r
 
 -- the place of a term that is built from its row, with what is bound put for its letters

@@ -1,7 +1,7 @@
 -- Matching: what bindings say, and what is still to be matched.
-use Rattle.std.specs.Prelude.{◌≡◌, ℕ, zero, suc, ◌+◌, ◌*◌, ◌<◌, ◌≤◌, Bool, true, false, ◌⊎◌, List, length, get_or, drop, replicate}
+use Rattle.std.specs.Prelude.{◌≡◌, ℕ, ◌+◌, ◌*◌, ◌<◌, ◌≤◌, Bool, true, false, ◌⊎◌, List, length, get_or, drop, replicate}
 use Rattle.std.specs.Prelude.{Some, None}
-use Rattle.std.specs.Prelude.{Option as Maybe, ◌≢◌, slice_index_or, slice_set}
+use Rattle.std.specs.Prelude.{Option as Maybe, ◌≢◌, [], ◌∷◌, slice_index_or, slice_set}
 use Rattle.rewriting.specs.Terms.{Term, letter, sign, Terms, none1, and1, glue, count, size, sizes, put, puts, In, Ins}
 use Rattle.rewriting.specs.Terms.{Over, AllOver, SmallLetter, AnyLetter}
 use Rattle.books.specs.Rows.{row, rows}
@@ -9,7 +9,6 @@ use Rattle.store.specs.declared.types.Store.{Store}
 use Rattle.store.specs.declared.types.Place.{Place}
 use Rattle.store.specs.Stores.{term_in}
 use Rattle.engine.specs.declared.types.Bindings.{Bindings}
-use Rattle.engine.specs.declared.types.Places.{Places}
 
 -- what is bound to letter x
 abbrev pub bound : Bindings → ℕ → Maybe Place
@@ -78,67 +77,56 @@ abbrev pub BoundNow : Bindings → ℕ → Place → Bindings → Bool → Type 
 BoundNow b x q c true = ((bound b x ≡ Some q) × (c ≡ b)) ⊎ ((bound b x ≡ None) × (c.at ≡ slice_set b.at x (Some q)))
 BoundNow b x q c false = (p : Place) × (bound b x ≡ Some p) × (p.0 ≢ q.0)
 
--- the terms that are still to be matched, the next one first
-abbrev pub stacked : Store → List Place → ℕ → Terms
-stacked st ps zero = none1
-stacked st ps (suc n) = and1 (term_in st (get_or ps n (record { 0 = 0 })).0) (stacked st ps n)
+-- the terms that are still to be matched, the next one first, which is the last of the places
+abbrev pub stacked : Store → List Place → Terms
+stacked st [] = none1
+stacked st (p ∷ ps) = glue (stacked st ps) (and1 (term_in st p.0) none1)
 
--- the first n places stand in the store
-abbrev pub PlacesInside : Store → List Place → ℕ → Type 0
-PlacesInside st ps n = (d : ℕ) → d < n → (get_or ps d (record { 0 = 0 })).0 < st.count
+-- each of the places stands in the store
+abbrev pub PlacesInside : Store → List Place → Type 0
+PlacesInside st ps = (d : ℕ) → d < length ps → (get_or ps d (record { 0 = 0 })).0 < st.count
 
--- one place
-pub record Single {cap : ℕ} (q : Places cap) (p : Place) : Type 0 where
-  pub len : q.len ≡ 1
-  pub place : get_or q.places 0 (record { 0 = 0 }) ≡ p
-
--- the last place is taken
-pub record Popped {cap : ℕ} (q : Places cap) (p : Place) (r : Places cap) : Type 0 where
-  pub places : r.places ≡ q.places
-  pub len : r.len + 1 ≡ q.len
-  pub place : p ≡ slice_index_or q.places r.len (record { 0 = 0 })
-
--- places on top of n others, whose terms are in front of theirs
-pub record Pushed {cap : ℕ} (st : Store) (q : Places cap) (us : Terms) (r : Places cap) : Type 0 where
-  pub len : r.len ≡ q.len + count us
-  pub terms : stacked st r.places r.len ≡ glue us (stacked st q.places q.len)
-  pub inside : PlacesInside st r.places r.len
+-- places on top of others, whose terms are in front of theirs
+pub record Pushed (st : Store) (q : List Place) (us : Terms) (r : List Place) : Type 0 where
+  pub len : length r ≡ length q + count us
+  pub terms : stacked st r ≡ glue us (stacked st q)
+  pub inside : PlacesInside st r
 
 -- the sign at a place is f, and its parts are pending; or the term there is not of sign f
-abbrev pub PartsPending : {cap : ℕ} → Store → Place → ℕ → Places cap → Places cap → Bool → Type 0
+abbrev pub PartsPending : Store → Place → ℕ → List Place → List Place → Bool → Type 0
 PartsPending st p f q r true = (us : Terms) × (term_in st p.0 ≡ sign f us) × Pushed st q us r
 PartsPending st p f q r false = (us : Terms) → term_in st p.0 ≢ sign f us
 
 -- where matching the pattern l with the term t has come to, from the bindings b0 on: the words from place a on are these patterns,
 -- for which the pending terms are wanted; what is put for letters as b0 says makes l the term t exactly if it is as the bindings say
 -- and makes the patterns these terms
-pub record MatchingWith (ps ws : List ℕ) (b0 : Bindings) (l t : Term) (st : Store) (a : ℕ) (q : Places 36) (b : Bindings)
+pub record MatchingWith (ps ws : List ℕ) (b0 : Bindings) (l t : Term) (st : Store) (a : ℕ) (q : List Place) (b : Bindings)
     (us : Terms) : Type 0 where
   pub over : AllOver SmallLetter ps us
   pub written : drop a ws ≡ rows us
   pub long : a + 2 * sizes us ≡ length ws
-  pub counted : count us ≡ q.len
-  pub inside : PlacesInside st q.places q.len
-  pub fit : AllOver AnyLetter ps (stacked st q.places q.len)
+  pub counted : count us ≡ length q
+  pub inside : PlacesInside st q
+  pub fit : AllOver AnyLetter ps (stacked st q)
   pub full : length b.at ≡ 32
   pub bound_inside : AllInside st b
-  pub enough : (s : ℕ → Term) → Agrees st b s → puts s us ≡ stacked st q.places q.len → Agrees st b0 s × (put s l ≡ t)
-  pub needed : (s : ℕ → Term) → Agrees st b0 s → put s l ≡ t → Agrees st b s × (puts s us ≡ stacked st q.places q.len)
+  pub enough : (s : ℕ → Term) → Agrees st b s → puts s us ≡ stacked st q → Agrees st b0 s × (put s l ≡ t)
+  pub needed : (s : ℕ → Term) → Agrees st b0 s → put s l ≡ t → Agrees st b s × (puts s us ≡ stacked st q)
   pub letters : (x : ℕ) → Bound b0 x ⊎ In x l → Bound b x ⊎ Ins x us
 
-abbrev pub Matching : List ℕ → List ℕ → Bindings → Term → Term → Store → ℕ → Places 36 → Bindings → Type 0
+abbrev pub Matching : List ℕ → List ℕ → Bindings → Term → Term → Store → ℕ → List Place → Bindings → Type 0
 Matching ps ws b0 l t st a q b = (us : Terms) × MatchingWith ps ws b0 l t st a q b us
 
 -- that, of any pattern whose row the words are
-abbrev pub MatchesAll : List ℕ → Bindings → Store → Place → ℕ → Places 36 → Bindings → Type 0
+abbrev pub MatchesAll : List ℕ → Bindings → Store → Place → ℕ → List Place → Bindings → Type 0
 MatchesAll ws b0 st p a q b = (ps : List ℕ) (l : Term) → Pattern ps ws l st p → Matching ps ws b0 l (term_in st p.0) st a q b
 
 -- one symbol further, or nothing put for letters as b0 says makes l the term t
-abbrev pub Turned : List ℕ → List ℕ → Bindings → Term → Term → Store → ℕ → Places 36 → Bindings → Bool → Type 0
+abbrev pub Turned : List ℕ → List ℕ → Bindings → Term → Term → Store → ℕ → List Place → Bindings → Bool → Type 0
 Turned ps ws b0 l t st a q b true = Matching ps ws b0 l t st a q b
 Turned ps ws b0 l t st a q b false = (s : ℕ → Term) → Agrees st b0 s → put s l ≢ t
 
 -- a turn with the symbol at place a, whatever is matched
-abbrev pub Turns : List ℕ → Store → ℕ → Places 36 → Bindings → Places 36 → Bindings → Bool → Type 0
+abbrev pub Turns : List ℕ → Store → ℕ → List Place → Bindings → List Place → Bindings → Bool → Type 0
 Turns ws st a q b r c x = (ps : List ℕ) (b0 : Bindings) (l t : Term) →
     Matching ps ws b0 l t st a q b → Turned ps ws b0 l t st (a + 2) r c x

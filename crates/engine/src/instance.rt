@@ -5,6 +5,7 @@ ghost use Rattle.books.specs.Layouts.{FewParts};
 ghost use Rattle.engine.specs.Matching.{AllInside};
 ghost use Rattle.engine.specs.Building.{Buildable, Fillable, RowInstanceBuilt, SymbolBuilt};
 
+use crate::places::take;
 use crate::types::{Bindings, Built};
 use books::words::{Symbol, symbol_at};
 use store::{Place, Store};
@@ -18,14 +19,14 @@ fn build_symbol(
     built: &mut Built,
 )
     requires space { store.old.count < store.old.limit }
-    requires buildable { Buildable parts.now symbol bindings.now store.old built.old }
-    ensures { SymbolBuilt parts.now symbol bindings.now store.old built.old store.new built.new }
+    requires buildable { Buildable parts.now symbol bindings.now store.old built.old.items }
+    ensures { SymbolBuilt parts.now symbol bindings.now store.old built.old.items store.new built.new.items }
 {
     match symbol {
         Symbol::Letter(x) => built.push(bindings.get(x).unwrap()),
         Symbol::Sign(f) => {
             let n = parts[f as usize] as usize;
-            let args = built.take(n);
+            let args = take(built, n);
             let p = store.share_sign(f, args, n);
             built.push(p);
         }
@@ -46,5 +47,5 @@ pub fn row_instance(parts: &[u32], row: &[u32], bindings: &Bindings, store: &mut
         let symbol = symbol_at(row, 2 * k).unwrap();
         build_symbol(parts, symbol, bindings, store, &mut built);
     }
-    built.places[0]
+    built[0]
 }

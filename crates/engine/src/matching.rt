@@ -3,9 +3,11 @@
 // Stays a store beside what is bound: matching reads the one and writes the other, and building does the reverse.
 ghost use Rattle.std.specs.Prelude.{◌≡◌, ℕ, ◌*◌, ◌<◌, ◌≤◌, List, length};
 ghost use Rattle.rewriting.specs.Terms.{Term};
+ghost use Rattle.arrayvec.specs.ArrayVec.{array_vec_len};
 ghost use Rattle.store.specs.Stores.{term_in};
 ghost use Rattle.engine.specs.Matching.{given, AllInside, MatchedOn, Pattern, PlacesInside, SomePattern, Turns};
 
+use crate::places::open;
 use crate::types::{Bindings, Pending};
 use books::words::{Symbol, symbol_at};
 use store::{Place, Store};
@@ -19,14 +21,14 @@ fn match_symbol(
     pending: &mut Pending,
     bindings: &mut Bindings,
 ) -> bool
-    requires some { (0 < pending.old.len) × (pending.old.len ≤ 32) }
-    requires places_inside { PlacesInside store.now pending.old.places pending.old.len }
-    ensures { Turns pattern.now store.now at pending.old bindings.old pending.new bindings.new result }
+    requires some { (0 < array_vec_len pending.old) × (array_vec_len pending.old ≤ 32) }
+    requires places_inside { PlacesInside store.now pending.old.items }
+    ensures { Turns pattern.now store.now at pending.old.items bindings.old pending.new.items bindings.new result }
 {
-    let p = pending.pop();
+    let p = pending.pop().unwrap();
     match symbol_at(pattern, at) {
         Some(Symbol::Letter(x)) => x < 32 && bindings.bind(x, p),
-        Some(Symbol::Sign(f)) => pending.open(store, p, f),
+        Some(Symbol::Sign(f)) => open(pending, store, p, f),
         None => false,
     }
 }

@@ -1,4 +1,5 @@
 // The types: what is put for letters, and the places that are still to be matched or were built.
+use arrayvec::ArrayVec;
 use store::Place;
 
 // What is put for letters: for each of 32 a place, or nothing yet.
@@ -8,19 +9,11 @@ pub struct Bindings {
     pub at: [Option<Place>; 32],
 }
 
-// Places, the next one last: at most N of them.
-// Stays an array with a length: a new `ArrayVec` is filled with zeros by a memset, which is waited for, as at `Places::new`.
-#[derive(Clone, Copy)]
-pub struct Places<const N: usize> {
-    pub places: [Place; N],
-    pub len: usize,
-}
+// The places that are still to be matched, the next one last: as many as a side has symbols, and the parts of one more.
+pub type Pending = ArrayVec<Place, 36>;
 
-// The places that are still to be matched: as many as a side has symbols, and the parts of one more.
-pub type Pending = Places<36>;
-
-// The places of terms that are built and not yet parts of another: as many as a side has symbols.
-pub type Built = Places<32>;
+// The places of terms that are built and not yet parts of another, the next one last: as many as a side has symbols.
+pub type Built = ArrayVec<Place, 32>;
 
 // A sign one of whose parts is worked at: how many others it has, how many of these are done, and, if it is known, the place from
 // which work at the part began.

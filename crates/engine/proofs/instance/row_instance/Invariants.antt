@@ -6,4 +6,4 @@ use Rattle.engine.proofs.instance.row_instance.Given as goal
 
 abbrev pub invariant-loop-k : goal.invariant-loop-k
 invariant-loop-k l = (t : Term) → Fillable l.parts l.row l.bindings t →
-    SoBuilt t l.initial.store l.bindings l.k l.store l.built
+    SoBuilt t l.initial.store l.bindings l.k l.store l.built.items

@@ -4,5 +4,5 @@ use Rattle.engine.specs.Matching.{MatchesAll}
 use Rattle.engine.proofs.matching.bind_pattern.Given as goal
 
 abbrev pub invariant-loop-k : goal.invariant-loop-k
-invariant-loop-k l = MatchesAll l.pattern l.initial.bindings l.store (get_or l.initial.pending.places 0 (record { 0 = 0 })) (2 * l.k)
-    l.pending l.bindings
+invariant-loop-k l = MatchesAll l.pattern l.initial.bindings l.store (get_or l.initial.pending.items 0 (record { 0 = 0 })) (2 * l.k)
+    l.pending.items l.bindings
