@@ -1,7 +1,7 @@
 // Books with their names, read from the readable form.
-ghost use Rattle.std.specs.Prelude.{◌≡◌, ◌++◌, IfSome, IfOk, OnOk};
+ghost use Rattle.std.specs.Prelude.{◌≡◌, IfSome, IfOk};
 ghost use Rattle.notation.specs.Rows.{BookWays};
-ghost use Rattle.notation.specs.Books.{parts_in, ranks_in, row_with, Whole};
+ghost use Rattle.notation.specs.Books.{row_with, Whole};
 
 use crate::declarations::Names;
 use crate::parser::Parser;

@@ -1,11 +1,9 @@
 // Where the left side of one rule may be put on a part of another's, and what stands around that part.
-ghost use Rattle.std.specs.Prelude.{◌≡◌, ◌+◌, ◌<◌, ◌≤◌, length, slice_index};
-ghost use Rattle.rewriting.specs.Order.{rank};
-ghost use Rattle.rewriting.specs.Order.{AllDown};
+ghost use Rattle.std.specs.Prelude.{◌≡◌, ◌+◌, ◌<◌, ◌≤◌, length};
+ghost use Rattle.rewriting.specs.Order.{rank, AllDown};
 ghost use Rattle.rewriting.specs.Terms.{size};
 ghost use Rattle.rewriting.specs.Answers.{Tells};
-ghost use Rattle.books.specs.Books.{told};
-ghost use Rattle.books.specs.Books.{rule_in};
+ghost use Rattle.books.specs.Books.{told, rule_in};
 ghost use Rattle.overlaps.specs.Positions.{holed, SameSign, OverlapOrNone};
 
 use crate::types::{HOLE, Overlap, Row};
