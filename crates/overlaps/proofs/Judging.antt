@@ -28,7 +28,7 @@ use Rattle.overlaps.specs.declared.types.Overlap.{Overlap}
 use Rattle.overlaps.specs.declared.types.Pair.{Pair}
 use Rattle.overlaps.specs.Positions.{index, Stands, OverlapIs, OverlapOrNone}
 use Rattle.overlaps.specs.Pairs.{Results, PairFound}
-use Rattle.overlaps.specs.Verdict.{JoinedBy, Joined, TooLarge, OverlapSays, OneEndSays}
+use Rattle.overlaps.specs.Verdict.{JoinedBy, Joined, TooLarge, OverlapSays}
 use Rattle.overlaps.proofs.Positions.{index_low}
 
 -- the term where the rules meet, and its two results

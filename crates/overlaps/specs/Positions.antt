@@ -1,5 +1,5 @@
 -- Positions in a term: the number of the symbol in its row where a part starts.
-use Rattle.std.specs.Prelude.{◌≡◌, ℕ, ◌+◌, ◌*◌, ◌<◌, ◌≤◌, List, ◌∷◌, ◌++◌, length, take, drop, Some, None, Option as Maybe, ◌≢◌}
+use Rattle.std.specs.Prelude.{◌≡◌, ℕ, ◌+◌, ◌*◌, ◌<◌, List, ◌∷◌, ◌++◌, length, take, drop, Some, None, Option as Maybe, ◌≢◌}
 use Rattle.std.specs.Prelude.{slice_index}
 use Rattle.rewriting.specs.Terms.{Term, sign, Terms, put, size}
 use Rattle.rewriting.specs.Rules.{Part, itself, in_part, Parts, in_this, in_later, renamed}

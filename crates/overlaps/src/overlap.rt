@@ -8,7 +8,7 @@ ghost use Rattle.overlaps.specs.Positions.{holed, SameSign, OverlapOrNone};
 
 use crate::types::{HOLE, Overlap, Row};
 use books::Book;
-use books::words::{Letters, term_end};
+use books::words::{Letters, Symbol, term_end};
 
 // Whether a sign stands at a place of a row, and is the first one of another row.
 fn same_sign(row: &[u32], at: usize, other: &[u32]) -> bool
@@ -47,8 +47,9 @@ pub fn with_hole(row: &[u32], from: usize, to: usize) -> Row
 {
     let mut holed = Row::new();
     holed.try_extend_from_slice(&row[..from]).unwrap();
-    holed.push(0);
-    holed.push(HOLE as u32);
+    holed
+        .try_extend_from_slice(&Symbol::Letter(HOLE as u32).words())
+        .unwrap();
     holed.try_extend_from_slice(&row[to..]).unwrap();
     holed
 }
