@@ -1,7 +1,7 @@
 // The answers as text: the words by which programs know them, and plain sentences for people.
 #![tactic(auto)]
 
-ghost use Rattle.std.specs.Prelude.{◌≡◌, length, IfOk, string_bytes};
+ghost use Rattle.std.specs.Prelude.{◌≡◌, IfOk, string_bytes};
 ghost use Rattle.answers.specs.Words.{judged_text, judged_from, told_text, told_from, Number};
 
 use equal::{Judged, Told};

@@ -4,9 +4,9 @@
 ghost use Rattle.std.specs.Prelude.{◌≡◌, ◌≤◌, IfOk};
 ghost use Rattle.arguments.specs.Requests.{Within};
 
-use std::fmt;
-
 mod program;
+
+use std::fmt;
 
 pub use program::{Program, Stopped, run};
 

@@ -1,5 +1,5 @@
 // Reading a book's row.
-ghost use Rattle.std.specs.Prelude.{◌≡◌, ℕ, ◌+◌, ◌*◌, ◌<◌, ◌≤◌, length, slice_index};
+ghost use Rattle.std.specs.Prelude.{◌≤◌, length};
 ghost use Rattle.rewriting.specs.Answers.{Tells};
 ghost use Rattle.books.specs.Layouts.{FewParts, AllDiffer, HeadRead, SidesRead, BookRead};
 

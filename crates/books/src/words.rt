@@ -1,6 +1,6 @@
 // Symbols, each two words of a row, and where terms end.
-ghost use Rattle.std.specs.Prelude.{◌≡◌, ◌^◌, ◌<◌, IfSome};
-ghost use Rattle.books.specs.Reading.{allowed, Asks, SymbolAt, TermsEnd, TermEnd};
+ghost use Rattle.std.specs.Prelude.{◌≡◌, ◌^◌, ◌<◌, [], ◌∷◌, IfSome};
+ghost use Rattle.books.specs.Reading.{allowed, tag, number, Asks, SymbolAt, TermsEnd, TermEnd};
 
 // Which letters a term may have: those below 16, or any.
 // Stays a parameter of what reads terms: it says which letters are allowed, and the steps are the same.
@@ -29,6 +29,16 @@ impl Letters {
 }
 
 impl Symbol {
+    // Its two words in a row: a letter is 0 and its number, and a sign 1 and its number.
+    pub fn words(self) -> [u32; 2]
+        ensures { result ≡ tag self ∷ number self ∷ [] }
+    {
+        match self {
+            Symbol::Letter(x) => [0, x],
+            Symbol::Sign(f) => [1, f],
+        }
+    }
+
     // How many terms have to follow: none after a letter, its parts after a sign.
     fn asks(self, letters: Letters, parts: &[u32]) -> Option<usize>
         ensures is { Asks letters parts.now self result }

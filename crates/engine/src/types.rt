@@ -1,4 +1,4 @@
-// The types: what is put for letters, and the places that are still to be matched or were built.
+// The types: what is put for letters, lists of places, the stack of frames with what is worked at, and the want of room.
 use arrayvec::ArrayVec;
 use store::Place;
 

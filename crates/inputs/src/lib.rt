@@ -1,7 +1,7 @@
 // How the programs read a book: from a file or the standard input, in the readable form or as rows.
 #![tactic(auto)]
 
-use arguments::{Input, Program, Stopped};
+use arguments::{Input, Options, Program, Stopped};
 use lexing::fault::{Error, Place, place_after};
 use lexing::{Rows, read_rows};
 use notation::{Book, parse};
@@ -127,7 +127,7 @@ pub fn source_of(heap: Global, bytes: &[u8], rows: bool) -> Result<Source, Troub
         return Err(Trouble::TooLong);
     }
     let text = std::str::from_utf8(bytes).map_err(|e| Trouble::NoUtf8(place_after(
-        &bytes[0..e.valid_up_to()],
+        &bytes[..e.valid_up_to()],
     )))?;
     if rows {
         Ok(Source::Rows(read_rows(heap, text)?))
@@ -136,8 +136,17 @@ pub fn source_of(heap: Global, bytes: &[u8], rows: bool) -> Result<Source, Troub
     }
 }
 
-// Reads a book.
-pub fn read_source(rt: &HostRuntime, input: Input<'_>, rows: bool) -> Result<Source, Trouble> {
+fn read_source(rt: &HostRuntime, input: Input<'_>, rows: bool) -> Result<Source, Trouble> {
     let bytes = read_input(rt, input)?;
     source_of(rt.alloc(), bytes.as_slice(), rows)
+}
+
+// Reads the book that the program was asked for; where that fails, it is told why.
+pub fn read_book(
+    rt: &HostRuntime,
+    program: Program,
+    options: &Options<'_>,
+) -> Result<Source, Stopped> {
+    let input = options.book.unwrap_or(Input::Stdin);
+    read_source(rt, input, options.rows).map_err(|trouble| complain(rt, program, input, trouble))
 }

@@ -1,9 +1,8 @@
 // Judges a book of equations and rules. For now it reads the book, and says what it has read.
 #![tactic(auto)]
 
-use arguments::{Input, Options, Program, Stopped, run};
-use books::read_book;
-use inputs::{complain, read_source};
+use arguments::{Options, Program, Stopped, run};
+use inputs::read_book;
 use std::process::ExitCode;
 
 const HELP: &str = "Usage: judge [--rows] [--work N] [FILE]
@@ -15,14 +14,8 @@ Judges the book of equations and rules in FILE, or on the standard input where t
 The readable form and the answers are explained in docs/BOOKS.md.";
 
 fn judge(rt: &HostRuntime, options: Options<'_>) -> Result<(), Stopped> {
-    let book = options.book.unwrap_or(Input::Stdin);
-    let source = read_source(rt, book, options.rows).map_err(|trouble| complain(
-        rt,
-        Program::Judge,
-        book,
-        trouble,
-    ))?;
-    match read_book(source.words()) {
+    let source = read_book(rt, Program::Judge, &options)?;
+    match books::read_book(source.words()) {
         None => println!(rt; "no book")?,
         Some(layout) => {
             let signs = layout.signs();

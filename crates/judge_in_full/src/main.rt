@@ -2,9 +2,9 @@
 #![tactic(auto)]
 
 use answers::{explanation, judged_line};
-use arguments::{Input, Options, Program, Stopped, run};
+use arguments::{Options, Program, Stopped, run};
 use equal::{Judged, judge};
-use inputs::{Source, complain, read_source};
+use inputs::{Source, read_book};
 use std::alloc::AllocError;
 use std::process::ExitCode;
 
@@ -24,13 +24,7 @@ fn answer(rt: &HostRuntime, source: &Source, work: usize) -> Result<Judged, Allo
 
 // Prints the answer on a line, and what it says.
 fn judge_file(rt: &HostRuntime, options: Options<'_>) -> Result<(), Stopped> {
-    let book = options.book.unwrap_or(Input::Stdin);
-    let source = read_source(rt, book, options.rows).map_err(|trouble| complain(
-        rt,
-        Program::JudgeInFull,
-        book,
-        trouble,
-    ))?;
+    let source = read_book(rt, Program::JudgeInFull, &options)?;
     let answer = answer(rt, &source, options.work)?;
     let line = judged_line(rt.alloc(), answer)?;
     let words = explanation(rt.alloc(), answer, source.named())?;

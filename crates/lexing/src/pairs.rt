@@ -1,5 +1,5 @@
 // Pairs of terms, one a line, as rows of decimal words with `|` between them.
-ghost use Rattle.std.specs.Prelude.{◌+◌, ◌≤◌, vec_len};
+ghost use Rattle.std.specs.Prelude.{◌≤◌, vec_len};
 
 use crate::cursor::Cursor;
 use crate::fault::{Error, Expected};

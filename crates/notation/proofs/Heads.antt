@@ -1,13 +1,10 @@
--- The parts of the signs in a book's row.
-use Rattle.std.proofs.Common.{◌≡◌, ℕ, ◌+◌, ◌-◌, ◌≤◌, List, [], ◌∷◌, ◌++◌, length, take, drop, vec_items, vec_len, sym, refl, ap, ◌∙◌}
-use Rattle.std.proofs.Common.{subst, append_assoc, one-add, arith, length-append}
+-- The row that signs and sides make is a book's row with these signs.
+use Rattle.std.proofs.Common.{◌≡◌, ℕ, List, [], ◌∷◌, ◌++◌, length, vec_items, vec_len, sym, refl, ◌∙◌}
+use Rattle.std.proofs.Common.{append_assoc, arith}
 use mathlib.Core.List.{head-eq_of_cons-eq, tail-eq_of_cons-eq}
 use lib.ListN.{length-map}
-use lib.Seq.{take-append_seam}
 use Rattle.rewriting.specs.Books.{Book}
-use Rattle.books.specs.Rows.{Reads, SomeWays, rowB, rowEs}
-use Rattle.books.specs.Layouts.{Laid}
-use Rattle.books.specs.declared.layout.Layout.{Layout}
+use Rattle.books.specs.Rows.{rowEs}
 use Rattle.notation.specs.Books.{parts_in, ranks_in, row_with, Whole}
 use Rattle.notation.specs.Rows.{BookWays}
 use Rattle.notation.specs.declared.book.Book.{Book as NamedBook}
@@ -17,25 +14,6 @@ use Rattle.notation.specs.declared.signature.Sign.{Sign}
 -- what stands in the row after the parts
 after : Book → List ℕ
 after b = b.ranks ++ (length b.eqs ∷ length b.rules ∷ (rowEs b.eqs ++ rowEs b.rules))
-
-parts_here : (s : List ℕ) (b : Book) → Reads s b → take (length b.parts) (drop 1 s) ≡ b.parts
-unfolding after
-parts_here s b r = subst (λ t. take (length b.parts) (drop 1 t) ≡ b.parts) r.is (take-append_seam b.parts (after b))
-
-module _ (s : List ℕ) (b : Book) (l : Layout) (r : Reads s b) (p : Laid s b l) (n : ℕ) (e : n ≡ l.signs) where
-  -- the parts stand within the row
-  pub parts_within : 1 + n ≤ length s
-  unfolding after
-  parts_within =
-      let long : length (rowB b) ≡ 1 + length (b.parts ++ after b) = sym (one-add _) in
-      omega (arith, long, ap length r.is, length-append b.parts (after b), p.signs)
-
-  -- ways for the parts that stand there are ways for the book's rules
-  pub ways_here : (h : List ℕ) (m : ℕ) → m ≡ l.rules → SomeWays (take (1 + n - 1) (drop 1 s)) m h → BookWays s h l
-  ways_here h m d w =
-      let n_is : 1 + n - 1 ≡ length b.parts = omega (arith, p.signs) in
-      let parts = ap (λ k. take k (drop 1 s)) n_is ∙ parts_here s b r in
-      (b, r, p, subst (λ k. SomeWays b.parts k h) (d ∙ p.rules) (subst (λ ps. SomeWays ps m h) parts w))
 
 -- equal lists, each of two parts of which the first are as long
 halves : (us vs xs ys : List ℕ) → length us ≡ length vs → us ++ xs ≡ vs ++ ys → (us ≡ vs) × (xs ≡ ys)

@@ -1,13 +1,13 @@
 // Books with their names, read from the readable form.
-ghost use Rattle.std.specs.Prelude.{◌≡◌, ◌++◌, IfSome, IfOk, OnOk};
+ghost use Rattle.std.specs.Prelude.{◌≡◌, IfSome, IfOk};
 ghost use Rattle.notation.specs.Rows.{BookWays};
-ghost use Rattle.notation.specs.Books.{parts_in, ranks_in, row_with, Whole};
+ghost use Rattle.notation.specs.Books.{row_with, Whole};
 
 use crate::declarations::Names;
 use crate::parser::Parser;
 use crate::sections::Sides;
 use crate::signature::{Sign, Signature};
-use books::{Layout, are_ways, read_book};
+use books::{Layout, are_ways};
 use lexing::MOST_WORDS;
 use lexing::fault::{Error, Expected};
 use std::alloc::{AllocError, Global};
@@ -39,13 +39,8 @@ fn book_row(heap: Global, signs: &[Sign], sides: &Sides) -> Result<Vec<u32>, All
 fn read_both(words: &[u32], ways: &[u32]) -> Option<Layout>
     ensures { IfSome result (BookWays words.now ways.now) }
 {
-    let layout = read_book(words)?;
-    let parts = &words[1..1 + layout.signs()];
-    if are_ways(parts, layout.rules(), ways) {
-        Some(layout)
-    } else {
-        None
-    }
+    let book = books::Book::read(words)?;
+    are_ways(book.parts(), book.layout.rules(), ways).then_some(book.layout)
 }
 
 // Reads a book in the readable form. Its words are the row of a book with the parts and ranks that its signs have, and its ways' words

@@ -1,6 +1,6 @@
 // The sections that follow the names: equations, and rules with their ways.
 // Stays loops that count by hand: each ends with the text, and the count is what is told.
-ghost use Rattle.std.specs.Prelude.{◌+◌, ◌*◌, ◌≤◌, IfOk, vec_len};
+ghost use Rattle.std.specs.Prelude.{◌+◌, ◌≤◌, IfOk, vec_len};
 
 use crate::parser::{Parser, entry_comes};
 use crate::terms::Limits;

@@ -53,10 +53,9 @@ impl Signature {
     pub fn named(&self, name: &[u8]) -> Option<Symbol>
         ensures { IfSome result (Named self.now name.now) }
     {
-        match self.sign_named(name) {
-            Some(i) => Some(Symbol::Sign(i)),
-            None => self.letter_named(name).map(Symbol::Letter),
-        }
+        self.sign_named(name)
+            .map(Symbol::Sign)
+            .or_else(|| self.letter_named(name).map(Symbol::Letter))
     }
 
     // Whether a sign has this rank.

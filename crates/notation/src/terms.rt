@@ -60,8 +60,7 @@ impl<'a> Parser<'a> {
     fn letter(&mut self, row: &mut Vec<u32>, letter: u32) -> Result<(), Error>
         ensures { vec_len row.new ≤ vec_len row.old + 2 }
     {
-        row.push(0)?;
-        row.push(letter)?;
+        row.extend_from_slice(&Symbol::Letter(letter).words())?;
         self.cursor.advance();
         if self.cursor.token.is(Kind::Open) {
             return Err(
@@ -77,8 +76,7 @@ impl<'a> Parser<'a> {
         ensures { vec_len row.new ≤ vec_len row.old + 2 }
     {
         let sign = &self.signature.signs[number as usize];
-        row.push(1)?;
-        row.push(number)?;
+        row.extend_from_slice(&Symbol::Sign(number).words())?;
         self.cursor.advance();
         let opened = self.cursor.take(Kind::Open);
         match sign.parts.checked_sub(1) {

@@ -1,5 +1,5 @@
 // The terms that stand in a rule's sides, each by the place of its first word.
-ghost use Rattle.std.specs.Prelude.{◌≡◌, length, slice_index, MatchOption};
+ghost use Rattle.std.specs.Prelude.{◌≡◌, slice_index, MatchOption};
 ghost use Rattle.rewriting.specs.Order.{rank};
 ghost use Rattle.rewriting.specs.Terms.{Term};
 ghost use Rattle.books.specs.Rows.{row};

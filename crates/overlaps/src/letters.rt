@@ -1,9 +1,7 @@
 // The letters of two rules in a store: those of the second are renamed.
-ghost use Rattle.std.specs.Prelude.{◌≡◌, ◌+◌, ◌≤◌};
+ghost use Rattle.std.specs.Prelude.{◌≡◌, ◌≤◌};
 ghost use Rattle.engine.specs.Matching.{Bound};
-ghost use Rattle.overlaps.specs.Pairs.{Shifted};
-ghost use Rattle.overlaps.specs.Pairs.{LettersMade};
-ghost use Rattle.overlaps.specs.Pairs.{HoleBound};
+ghost use Rattle.overlaps.specs.Pairs.{Shifted, LettersMade, HoleBound};
 
 use crate::types::{HOLE, LETTERS};
 use engine::types::Bindings;

@@ -49,8 +49,9 @@ pub fn with_hole(row: &[u32], from: usize, to: usize) -> Row
 {
     let mut holed = Row::new();
     holed.try_extend_from_slice(&row[..from]).unwrap();
-    holed.push(0);
-    holed.push(HOLE as u32);
+    holed
+        .try_extend_from_slice(&Symbol::Letter(HOLE as u32).words())
+        .unwrap();
     holed.try_extend_from_slice(&row[to..]).unwrap();
     holed
 }

@@ -1,4 +1,4 @@
-// The types: an overlap of two rules, its two results, and what is found of a book.
+// The letters of rules and of a hole; and the types: an overlap of two rules, its two results, and the row of a term.
 use arrayvec::ArrayVec;
 use store::Place;
 

@@ -3,11 +3,11 @@
 
 ghost use Rattle.std.specs.Prelude.{◌≡◌, ◌≤◌, [], IfOk, string_bytes};
 
+mod printer;
+
 use notation::Book;
 use printer::Printer;
 use std::alloc::{AllocError, Global};
-
-mod printer;
 
 // The book, with its ways.
 // Stays a heap beside the book: the text lies where the caller says.

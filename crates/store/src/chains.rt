@@ -1,7 +1,7 @@
 // Chains of slots by hash: finding the slot of a key, and adding one.
 // Stays a table of its own: its slots and buckets lie in lent words, and no heap is used here.
 // Stays in the contracts that a key fits: its parts are below a count that the key doesn't hold.
-ghost use Rattle.std.specs.Prelude.{◌≡◌, ◌+◌, ◌<◌, ◌≤◌, true, false, None};
+ghost use Rattle.std.specs.Prelude.{◌≡◌, ◌≤◌, true, false, None};
 ghost use Rattle.store.specs.Cells.{HasSlot};
 ghost use Rattle.store.specs.Slots.{Shared};
 ghost use Rattle.store.specs.Keys.{FitsIn};

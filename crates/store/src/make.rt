@@ -5,7 +5,7 @@ ghost use Rattle.std.specs.Prelude.{◌≡◌, ℕ, ◌+◌, ◌-◌, ◌*◌, �
 ghost use Rattle.rewriting.specs.Terms.{letter, sign};
 ghost use Rattle.store.specs.Slots.{kind_of, arity_of, flag_of};
 ghost use Rattle.store.specs.Keys.{FitsIn, key_term};
-ghost use Rattle.store.specs.Chains.{Chains, Found};
+ghost use Rattle.store.specs.Chains.{Chains};
 ghost use Rattle.store.specs.Stores.{Grown, Carried, Inside, RootsKept, terms_up, terms_down};
 ghost use Rattle.store.specs.Making.{Opened, Interned, KeptOnly, root_term, terms_by, Placed, Made, Reserved};
 ghost use Rattle.store.specs.Making.{PartsInside, SignShared, LetterShared, Emptied};

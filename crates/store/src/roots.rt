@@ -1,6 +1,6 @@
 // Roots in lent words: the stack of places that are kept.
 // Stays in the contracts that the cells hold n roots: n is another number each time, and `truncate` takes any.
-ghost use Rattle.std.specs.Prelude.{◌≡◌, ◌+◌, ◌-◌, ◌*◌, ◌^◌, ◌<◌, ◌≤◌};
+ghost use Rattle.std.specs.Prelude.{◌≡◌, ◌+◌, ◌^◌, ◌<◌};
 ghost use Rattle.store.specs.Slots.{kind_of, arity_of};
 ghost use Rattle.store.specs.Roots.{root_at, HasRoots, RootPut};
 ghost use Rattle.store.specs.Stacks.{root_in, StackedOn, PushedOrFull, RootSet, CutTo, in_order, Gathered};

@@ -1,13 +1,12 @@
 // Rows into the store and out of it, symbol by symbol.
 // Stays in the contracts that words are the row of a term over a signature: it relates two slices, which are lent.
-ghost use Rattle.std.specs.Prelude.{◌≡◌, ◌+◌, ◌-◌, ◌<◌, ◌≤◌, length};
+ghost use Rattle.std.specs.Prelude.{◌≡◌, ◌-◌, ◌<◌, ◌≤◌, length};
 ghost use Rattle.rewriting.specs.Terms.{Term};
 ghost use Rattle.books.specs.Layouts.{FewParts};
 ghost use Rattle.store.specs.Roots.{HasRoots};
 ghost use Rattle.store.specs.Stores.{term_in, arity_in, Inside};
 ghost use Rattle.store.specs.Making.{Made};
-ghost use Rattle.store.specs.Transfers.{RowOf, takes, symbol_term, Readable, Read};
-ghost use Rattle.store.specs.Transfers.{PartsOrFull, SymbolOrShort, RootsBelow, WrittenOrShort};
+ghost use Rattle.store.specs.Transfers.{RowOf, takes, symbol_term, Readable, Read, PartsOrFull, SymbolOrShort, RootsBelow, WrittenOrShort};
 
 use crate::types::{Full, Node, Place, Roots, Short, Store};
 use books::words::{Symbol, symbol_at};
@@ -75,13 +74,11 @@ impl Store<'_> {
         roots.truncate(top);
         match self.view(p) {
             Node::Letter(x) => {
-                out[at] = 0;
-                out[at + 1] = x;
+                out[at..at + 2].copy_from_slice(&Symbol::Letter(x).words());
                 Ok(())
             }
             Node::Sign(f, n) => {
-                out[at] = 1;
-                out[at + 1] = f;
+                out[at..at + 2].copy_from_slice(&Symbol::Sign(f).words());
                 self.push_parts(roots, p, n)?;
                 Ok(())
             }

@@ -2,7 +2,7 @@
 // Stays in the contracts that there is a slot i: it is a fact of an index.
 // Stays words with the numbers of a slot and a cell: between two writes the words are no store.
 // Stays numbers for heads, kinds and links, with 0 for none: that is what cells of lent words hold.
-ghost use Rattle.std.specs.Prelude.{◌≡◌, ◌+◌, ◌-◌, ◌*◌, ◌<◌, ◌≤◌, false, length};
+ghost use Rattle.std.specs.Prelude.{◌≡◌, ◌+◌, ◌*◌, ◌<◌, ◌≤◌, false, length};
 ghost use Rattle.store.specs.Cells.{cell, HasSlot, CellPut, Cleared};
 ghost use Rattle.store.specs.Slots.{kind_of, kind_at, arity_of, arity_at, part_at, tag_of, symbol_of, flag_of, PartsWritten};
 ghost use Rattle.store.specs.Keys.{SlotWritten};

@@ -1,6 +1,6 @@
 // What stands at a place: the node, its parts, the flag that says normal, and the note.
 // Stays in the contracts that a place is inside: it relates the place to a store, which grows and is collected.
-ghost use Rattle.std.specs.Prelude.{◌≡◌, ◌+◌, ◌-◌, ◌<◌, true, false, ◌≢◌};
+ghost use Rattle.std.specs.Prelude.{◌≡◌, ◌+◌, ◌<◌, true, false, ◌≢◌};
 ghost use Rattle.store.specs.Cells.{cell};
 ghost use Rattle.store.specs.Stores.{term_in, arity_in, part_in, flag_in, note_in, note_of, Shows, FlagSet, NoteSet};
 

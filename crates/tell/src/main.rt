@@ -2,7 +2,7 @@
 #![tactic(auto)]
 
 use arguments::{Input, Options, Program, Stopped, run};
-use inputs::{Source, Trouble, complain, read_source};
+use inputs::{Source, Trouble, complain, read_book};
 use std::fs::File;
 use std::io::Read;
 use std::process::ExitCode;
@@ -41,13 +41,7 @@ fn tell_from<R: Read>(
 }
 
 fn tell(rt: &HostRuntime, options: Options<'_>) -> Result<(), Stopped> {
-    let book = options.book.unwrap_or(Input::Stdin);
-    let source = read_source(rt, book, options.rows).map_err(|trouble| complain(
-        rt,
-        Program::Tell,
-        book,
-        trouble,
-    ))?;
+    let source = read_book(rt, Program::Tell, &options)?;
     let pairs = options.pairs.unwrap_or(Input::Stdin);
     match pairs {
         Input::Stdin => tell_from(rt, &source, options.work, pairs, &mut rt.stdin()),

@@ -2,12 +2,9 @@
 // Stays in the contracts what judging says of the given rows: it relates an answer to rows, which are lent apart.
 ghost use Rattle.std.specs.Prelude.{◌≡◌, ◌+◌, length, ◌≢◌};
 ghost use Rattle.rewriting.specs.Answers.{Tells};
-ghost use Rattle.engine.specs.Meeting.{Ample, Working};
-ghost use Rattle.engine.specs.Meeting.{most_parts};
-ghost use Rattle.engine.specs.Meeting.{LeftIdle};
+ghost use Rattle.engine.specs.Meeting.{Ample, Working, most_parts, LeftIdle};
 ghost use Rattle.equal.specs.declared.types.Judged.TheVariants.{Settles};
-ghost use Rattle.equal.specs.Promises.{JudgedSays, JudgedPost, ToldPost};
-ghost use Rattle.equal.specs.Promises.{TooFew};
+ghost use Rattle.equal.specs.Promises.{JudgedSays, JudgedPost, ToldPost, TooFew};
 
 use engine::work::Work;
 use equal::{Judged, Settled, Told, not_settled, too_few_with_terms};

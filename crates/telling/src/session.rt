@@ -1,5 +1,5 @@
 // All pairs of a text, by one book.
-ghost use Rattle.std.specs.Prelude.{◌≡◌, ◌≢◌};
+ghost use Rattle.std.specs.Prelude.{◌≢◌};
 ghost use Rattle.equal.specs.declared.types.Judged.TheVariants.{Settles};
 ghost use Rattle.equal.specs.Promises.{JudgedPost, ToldPost};
 ghost use Rattle.telling.specs.Session.{Ready};

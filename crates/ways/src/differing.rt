@@ -1,5 +1,5 @@
 // The only part in which two terms differ.
-ghost use Rattle.std.specs.Prelude.{◌≡◌, ◌<◌, ◌≤◌};
+ghost use Rattle.std.specs.Prelude.{◌≡◌, ◌<◌};
 ghost use Rattle.store.specs.Stores.{arity_in};
 ghost use Rattle.ways.specs.Steps.{FirstDifference, OnlyDifference};
 

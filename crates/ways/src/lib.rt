@@ -5,14 +5,14 @@ ghost use Rattle.std.specs.Prelude.{◌≡◌};
 ghost use Rattle.rewriting.specs.Answers.{Tells};
 ghost use Rattle.ways.specs.Showing.{Roomy, Shown, WentOn};
 
-use books::{Book, are_ways};
-use store::{Roots, Store};
-use walk::Walk;
-
 mod differing;
 mod steps;
 mod tops;
 mod walk;
+
+use books::{Book, are_ways};
+use store::{Roots, Store};
+use walk::Walk;
 
 // Whether the words are ways, one for each rule, that show that the rules follow from the equations.
 // Stays a bool: it answers a question, and the store and the roots beside it are only used on the way.

@@ -1,6 +1,6 @@
 // One step of an equation at one place, from one term to another or to itself.
 // Stays bools with `let .. else`: each function answers yes or no, and the roots beside it are only used on the way.
-ghost use Rattle.std.specs.Prelude.{◌≡◌, ◌+◌, ◌-◌, ◌<◌, ◌≢◌};
+ghost use Rattle.std.specs.Prelude.{◌+◌, ◌-◌, ◌<◌, ◌≢◌};
 ghost use Rattle.rewriting.specs.Answers.{Tells};
 ghost use Rattle.rewriting.specs.Terms.{count};
 ghost use Rattle.rewriting.specs.Ways.{One};

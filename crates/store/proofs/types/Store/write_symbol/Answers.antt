@@ -1,8 +1,9 @@
 -- The parts of a sign come in its place.
-use Rattle.std.proofs.Common.{◌≡◌, ℕ, ◌-◌, length, sym, ap, ◌∙◌, arith}
+use Rattle.std.proofs.Common.{◌≡◌, ℕ, ◌-◌, length, sym, ap, ◌∙◌, arith, rules}
 use Rattle.rewriting.specs.Terms.{sign}
 use Rattle.store.specs.Stores.{term_in, parts_in, held}
 use Rattle.store.proofs.Emitting.{no_cell, sign_count, sign_words, sign_below, sign_written}
+use Rattle.store.proofs.Writing.{two_copied}
 use Rattle.store.proofs.types.Store.write_symbol.Goals as goal
 
 pub returns-in_ok-push_parts-in-Sign : goal.returns-in_ok-push_parts-in-Sign
@@ -17,7 +18,8 @@ returns-in_ok-push_parts-in-Sign c =
       symbol = (
         sign_written a q p f n u e c.truncate.ensures i r h,
         omega arith,
-        sign_words a q p f n u e c.truncate.ensures i c.args.out.now c.args.at,
+        two_copied c.args.out.now c.copy_from_slice-in-Sign.new.self c.args.at _ 1 f (omega arith) (search rules) (omega arith)
+            ∙ sign_words a q p f n u e c.truncate.ensures i c.args.out.now c.args.at,
       );
     }
 
