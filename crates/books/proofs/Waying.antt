@@ -1,5 +1,6 @@
 -- Words that are a term; ways in a row: what a loop over the rules keeps, and why it stops.
-use Rattle.std.proofs.Common.{◌≡◌, ℕ, ◌+◌, ◌-◌, ◌<◌, ◌≤◌, Bool, eqb, Option as Maybe, ◌↔◌, List, [], ◌∷◌, ◌++◌, length, get_or, drop, Some, None, sym, refl}
+use Rattle.std.proofs.Common.{◌≡◌, ℕ, ◌+◌, ◌-◌, ◌<◌, ◌≤◌, Bool, eqb, Option as Maybe, ◌↔◌, List, [], ◌∷◌, ◌++◌, length, get_or, drop, Some}
+use Rattle.std.proofs.Common.{None, sym, refl}
 use Rattle.std.proofs.Common.{ap, ◌∙◌, ap₂, append-nil, add-one, arith, length-drop, drop-cons, eqb-true}
 use Rattle.std.proofs.Common.{false}
 use Rattle.std.specs.Option.{MatchOption}

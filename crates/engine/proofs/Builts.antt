@@ -1,5 +1,6 @@
 -- Places of built terms: the last ones taken, and a store that grows under them.
-use Rattle.std.proofs.Common.{◌≡◌, ℕ, zero, suc, ◌+◌, ◌-◌, ◌<◌, ◌≤◌, List, [], ◌∷◌, ◌++◌, length, get_or, take, drop, Some, sym, refl, ap, ◌∙◌}
+use Rattle.std.proofs.Common.{◌≡◌, ℕ, zero, suc, ◌+◌, ◌-◌, ◌<◌, ◌≤◌, List, [], ◌∷◌, ◌++◌, length, get_or, take, drop, Some, sym, refl, ap}
+use Rattle.std.proofs.Common.{◌∙◌}
 use Rattle.std.proofs.Common.{subst, ap₂, arith, get_or-take, length-take-le, take_all, take-take, take-append-drop}
 use Rattle.std.proofs.lemmas.List.{take_more}
 use Rattle.rewriting.specs.Terms.{Term, sign, Terms, none1, and1, glue, count}

@@ -1,5 +1,6 @@
 -- A way followed term by term.
-use Rattle.std.proofs.Common.{◌≡◌, ℕ, ◌+◌, ◌-◌, ◌*◌, get_or, ◌<◌, ◌≤◌, Bool, true, false, List, [], ◌∷◌, ◌++◌, length, drop, Some, None, Option}
+use Rattle.std.proofs.Common.{◌≡◌, ℕ, ◌+◌, ◌-◌, ◌*◌, get_or, ◌<◌, ◌≤◌, Bool, true, false, List, [], ◌∷◌, ◌++◌, length, drop, Some, None}
+use Rattle.std.proofs.Common.{Option}
 use Rattle.std.proofs.Common.{sym, refl, ap, ◌∙◌, subst, subst₂, append_assoc, append-nil, arith}
 use Rattle.rewriting.specs.Answers.{Tells}
 use Rattle.rewriting.specs.Terms.{Term, none1, and1, size, sizes, Fits, SmallLetter}

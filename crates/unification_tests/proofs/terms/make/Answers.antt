@@ -1,5 +1,6 @@
 -- One part more.
-use Rattle.std.proofs.Common.{ℕ, ◌≡◌, ◌≢◌, ◌+◌, ◌<◌, List, length, get_or, set, sym, subst, arith, get_or-set_other, get_or-set_same, length-set}
+use Rattle.std.proofs.Common.{ℕ, ◌≡◌, ◌≢◌, ◌+◌, ◌<◌, List, length, get_or, set, sym, subst, arith, get_or-set_other, get_or-set_same}
+use Rattle.std.proofs.Common.{length-set}
 use native.Mathlib.Decide.{dec_lt}
 use Rattle.store.specs.declared.types.Place.{Place}
 use Rattle.unification_tests.proofs.terms.make.Goals as goal
