@@ -6,9 +6,8 @@ ghost use Rattle.arguments.specs.Requests.{Within};
 
 mod program;
 
-use std::fmt;
-
 pub use program::{Program, Stopped, run};
+use std::fmt;
 
 // All buffers together have at most 4 MiB. Of these 768 KiB are for texts, rows, names and reading; the rest can be lent as work words, of
 // 4 bytes each.
