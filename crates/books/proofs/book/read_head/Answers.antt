@@ -27,7 +27,7 @@ returns-then-equations-gt64 c b r =
     let h = head_of c.args.words.now b r in
     let q : c.in_ok-signs.field-0.now ≡ signs_of c.args.words.now = search rules in
     let word : (k : ℕ) → get_or c.args.words.now (k + 2 * c.in_ok-signs.field-0.now) 0 ≡ get_or c.args.words.now (k + 2 * signs_of
-        c.args.words.now) 0 =
+    c.args.words.now) 0 =
     λ k. ap (λ (n : ℕ). get_or c.args.words.now (k + 2 * n) 0) q in
     elim c.then-equations-gt64.either [
       | inl p ↦ omega (arith, p, word 1, h.eqs, r.fine.few_eqs)

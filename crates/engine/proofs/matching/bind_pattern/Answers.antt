@@ -23,7 +23,7 @@ match_symbol-requires c =
     let (ps, u, h) = c.requires.pattern.1 in
     let m = of_place c.args.pattern.now c.args.bindings.now c.args.store.now _ c.args.p
     (2 * c.loop-k.k) c.loop-k.pending.items c.loop-k.bindings (ap first (only_one c.new-pending.result.items c.push.new.self.items
-        c.args.p c.new-pending.ensures c.push.ensures.items)) c.loop-k.invariant in
+    c.args.p c.new-pending.ensures c.push.ensures.items)) c.loop-k.invariant in
     let room = match_room ps c.args.pattern.now c.args.bindings.now u (term_in c.args.store.now c.args.p.0) c.args.store.now
     (2 * c.loop-k.k) c.loop-k.pending.items c.loop-k.bindings (omega (arith, ap length h.written, row_length u, h.short))
     (omega (arith, c.loop-k-test.true)) (m ps u h) in
@@ -33,7 +33,7 @@ pub returns-then-not-match_symbol : goal.returns-then-not-match_symbol
 returns-then-not-match_symbol c ps u h =
     let m = of_place c.args.pattern.now c.args.bindings.now c.args.store.now _ c.args.p
     (2 * c.loop-k.k) c.loop-k.pending.items c.loop-k.bindings (ap first (only_one c.new-pending.result.items c.push.new.self.items
-        c.args.p c.new-pending.ensures c.push.ensures.items)) c.loop-k.invariant in
+    c.args.p c.new-pending.ensures c.push.ensures.items)) c.loop-k.invariant in
     c.if-not-match_symbol.ensures ps c.args.bindings.now u (term_in c.args.store.now c.args.p.0) (m ps u h)
 
 pub loop-k-preserved : goal.loop-k-preserved
@@ -48,7 +48,7 @@ pub returns : goal.returns
 returns c ps u h =
     let m = of_place c.args.pattern.now c.args.bindings.now c.args.store.now _ c.args.p
     (2 * c.loop-k.k) c.loop-k.pending.items c.loop-k.bindings (ap first (only_one c.new-pending.result.items c.push.new.self.items
-        c.args.p c.new-pending.ensures c.push.ensures.items)) c.loop-k.invariant in
+    c.args.p c.new-pending.ensures c.push.ensures.items)) c.loop-k.invariant in
     match_end ps c.args.pattern.now c.args.bindings.now u (term_in c.args.store.now c.args.p.0) c.args.store.now
     (2 * c.loop-k.k) c.loop-k.pending.items c.loop-k.bindings (m ps u h)
     (omega (arith, c.loop-k-test.false, ap length h.written, row_length u))
