@@ -10,6 +10,7 @@ use crate::instance::row_instance;
 use crate::matching::bind_pattern;
 use crate::types::Bindings;
 use books::Book;
+use books::words::{Symbol, symbol_at};
 use store::{Node, Place, Store};
 
 // Matches the left side of rule i with the term at p, whose top sign is f. Most rules fail at that sign already.
@@ -26,7 +27,7 @@ fn match_rule(
     ensures { MatchedOn store.now nothing (rule_in book.now i).left (term_in store.now p.0) (given result bindings.new) }
 {
     let left = book.rule(i).left;
-    if left[1] != f {
+    if symbol_at(left, 0) != Some(Symbol::Sign(f)) {
         return false;
     }
     *bindings = Bindings::new();
@@ -42,7 +43,7 @@ fn find_rule(book: &Book, store: &Store, p: Place, bindings: &mut Bindings) -> O
     let Node::Sign(f, _) = store.view(p) else {
         return None;
     };
-    // Stays a loop over numbers: a book gives its rules by their numbers.
+    // Stays a loop over numbers: tried `find`: a proof learns nothing of what its closure has put behind `bindings`.
     for i in 0..book.layout.rules() {
         if match_rule(book, i, store, p, f, bindings) {
             return Some(i);
