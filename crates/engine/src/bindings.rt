@@ -26,12 +26,6 @@ impl Bindings {
         requires { x < 32 }
         ensures { BoundNow self.old x q self.new result }
     {
-        match self.get(x) {
-            Some(p) => p == q,
-            None => {
-                self.at[x as usize] = Some(q);
-                true
-            }
-        }
+        *self.at[x as usize].get_or_insert(q) == q
     }
 }

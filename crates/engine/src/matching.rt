@@ -58,16 +58,12 @@ pub fn match_pattern(
     pattern: &[u32],
     store: &Store,
     p: Place,
-    bindings: Bindings,
+    mut bindings: Bindings,
 ) -> Option<Bindings>
     requires pattern { (p.0 < store.now.count) × (SomePattern pattern.now store.now p) }
     requires bindings { (length bindings.at ≡ 32) × (AllInside store.now bindings) }
     ensures { (ps : List ℕ) (l : Term) → Pattern ps pattern.now l store.now p →
         MatchedOn store.now bindings l (term_in store.now p.0) result }
 {
-    let mut bindings = bindings;
-    if !bind_pattern(pattern, store, p, &mut bindings) {
-        return None;
-    }
-    Some(bindings)
+    bind_pattern(pattern, store, p, &mut bindings).then_some(bindings)
 }
