@@ -20,11 +20,7 @@ fn asked_word(asked: Option<Place>) -> u32
 fn asked_place(word: u32) -> Option<Place>
     ensures { result ≡ asked_in word }
 {
-    if word == 0 {
-        None
-    } else {
-        Some(Place(word as usize - 1))
-    }
+    word.checked_sub(1).map(|i| Place(i as usize))
 }
 
 impl<'a> Frames<'a> {
@@ -52,12 +48,12 @@ impl Frames<'_> {
     }
 
     fn put(&mut self, d: usize, frame: Frame)
-        requires { (4 * d + 4 ≤ length self.old.words.now) × ((frame.others ≤ 3) × (frame.done ≤ 3)) }
+        requires { 4 * d + 4 ≤ length self.old.words.now }
         ensures { FramePut self.old d frame self.new }
     {
         self.words[4 * d] = frame.sign;
-        self.words[4 * d + 1] = frame.others as u32;
-        self.words[4 * d + 2] = frame.done as u32;
+        self.words[4 * d + 1] = frame.others;
+        self.words[4 * d + 2] = frame.done;
         self.words[4 * d + 3] = asked_word(frame.asked);
     }
 
@@ -69,8 +65,8 @@ impl Frames<'_> {
         let d = self.depth - 1;
         Frame {
             sign: self.words[4 * d],
-            others: self.words[4 * d + 1] as usize,
-            done: self.words[4 * d + 2] as usize,
+            others: self.words[4 * d + 1],
+            done: self.words[4 * d + 2],
             asked: asked_place(self.words[4 * d + 3]),
         }
     }
@@ -88,8 +84,8 @@ impl Frames<'_> {
     }
 
     // A frame for a sign whose first part, at the place that is asked for, is worked at.
-    pub fn push(&mut self, sign: u32, others: usize, asked: Place)
-        requires { (4 * (self.old.depth + 1) ≤ length self.old.words.now) × (others ≤ 3) }
+    pub fn push(&mut self, sign: u32, others: u32, asked: Place)
+        requires { 4 * (self.old.depth + 1) ≤ length self.old.words.now }
         ensures { FramePushed self.old sign others asked self.new }
     {
         let frame = Frame {

@@ -92,7 +92,7 @@ impl Work<'_> {
     {
         let first = self.store.part(p, 0);
         push_others(&self.store, &mut self.roots, p, n);
-        self.frames.push(f, n, first);
+        self.frames.push(f, n as u32, first);
         Focus::Eval(first)
     }
 
@@ -101,7 +101,7 @@ impl Work<'_> {
         requires { (TopFrame self.old frame) × (frame.done < frame.others) }
         ensures { (k : _) → TurnsFrom k self.old (Back v) self.new result }
     {
-        let at = self.roots.top - frame.others + frame.done;
+        let at = self.roots.top - frame.others as usize + frame.done as usize;
         let next = self.roots.place(at);
         self.roots.set(at, v);
         self.frames.go_on(next);
@@ -115,9 +115,10 @@ impl Work<'_> {
             ((TopFrame self.old frame) × (frame.done ≡ frame.others)) }
         ensures { TurnsFrom book.now self.old (Back v) self.new result }
     {
-        let from = self.roots.top - frame.others;
-        let parts = gather_parts(&self.roots, from, frame.others, v);
-        let p = self.store.share_sign(frame.sign, parts, frame.others + 1);
+        let others = frame.others as usize;
+        let from = self.roots.top - others;
+        let parts = gather_parts(&self.roots, from, others, v);
+        let p = self.store.share_sign(frame.sign, parts, others + 1);
         self.roots.truncate(from);
         self.frames.pop();
         apply(book, &mut self.store, p)

@@ -22,8 +22,8 @@ pub type Built = ArrayVec<Place, 32>;
 #[derive(Clone, Copy, Debug, PartialEq, Eq)]
 pub struct Frame {
     pub sign: u32,
-    pub others: usize,
-    pub done: usize,
+    pub others: u32,
+    pub done: u32,
     pub asked: Option<Place>,
 }
 
