@@ -1,5 +1,5 @@
 -- Where the machine stands: the state of the model that the store, its roots and the frames say, and what stays true of them.
-use Rattle.std.specs.Prelude.{◌≡◌, ℕ, zero, suc, ◌+◌, ◌-◌, ◌*◌, ◌<◌, ◌≤◌, true, List, [], ◌∷◌, length, Some}
+use Rattle.std.specs.Prelude.{◌≡◌, ℕ, zero, suc, ◌+◌, ◌-◌, ◌<◌, ◌≤◌, true, List, [], ◌∷◌, length, Some}
 use Rattle.rewriting.specs.Terms.{Term, Terms, none1, and1}
 use Rattle.rewriting.specs.Rules.{Eq, Steps, Done}
 use Rattle.rewriting.specs.Machine.{frame, eval, back, State, state, around}

@@ -9,7 +9,7 @@ slide-n-requires c =
     let q : ℕ → ℕ = λ k. root_in c.args.roots.now k in
     let r = ready c.args.ws.now c.mark.new.ws c.clear.new.ws c.args.count (c.args.mask + 1) q c.args.roots.now.top
     c.requires.shared.0 c.mark.ensures (omega arith) c.clear.ensures in
-    record { shared = (r.0, (r.1, omega arith)); by_index = c.clear.ensures.is }
+    record { shared = (r.0, (r.1, omega arith)); empty = c.clear.ensures.is }
 
 pub returns : goal.returns
 returns c =
