@@ -134,11 +134,3 @@ module _ (mask : ℕ) (vs : List ℕ) (n : ℕ) (key : Key) (ws : List ℕ) (c :
 
   pub chains_added : Chains mask ws (n + 1)
   chains_added = record { fits = fits; lasts = lasts_now; links = links_now }
-
-pub chains_none : (mask : ℕ) (ws : List ℕ) → HasSlot ws mask → ((j : ℕ) → j < mask + 1 → last_at ws j ≡ 0) → Chains mask ws 0
-chains_none mask ws r z = record {
-  fits = r;
-  links = λ i l. absurd (omega arith);
-  lasts = λ b l. subst (λ (v : ℕ). Last mask ws b 0 v) (sym (z b (omega arith)))
-      (record { low = omega arith; all = λ j l. absurd (omega arith); mem = λ l. absurd (omega arith) });
-}

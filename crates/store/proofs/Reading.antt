@@ -125,7 +125,7 @@ module _ (ps ws : List ℕ) (a : Store) (q : Roots) (t : Term) (k : ℕ) (b : St
         (first_word ∙ h.1) (word_at ps ws t k 1 w ∙ h.2) s.is;
   }
 
-pub turn : (ps ws : List ℕ) (a : Store) (q : Roots) (t : Term) (n : ℕ) (b : Store) (r : Roots) → FewParts ps → RowOf ps ws t →
+turn : (ps ws : List ℕ) (a : Store) (q : Roots) (t : Term) (n : ℕ) (b : Store) (r : Roots) → FewParts ps → RowOf ps ws t →
     0 < n → 2 * n ≤ length ws → SoFar a q t n b r → (x : Option Symbol) (y : Symbol) → x ≡ Some y → SymbolAt ws (2 * (n - 1)) x →
     Turn ps a q t (n - 1) b r y
 turn ps ws a q t n b r few w p l s x y d h =
@@ -150,7 +150,7 @@ symbol_there ps ws t n w p l None h =
     absurd (omega arith)
 
 -- before the first symbol that is read
-pub so_far_none : (a : Store) (q : Roots) (t : Term) (k : ℕ) → Inside a q → k ≡ size t → SoFar a q t k a q
+so_far_none : (a : Store) (q : Roots) (t : Term) (k : ℕ) → Inside a q → k ≡ size t → SoFar a q t k a q
 so_far_none a q t k i e = record {
   room = refl;
   carried = carried_grown a a (grown_same a);
@@ -166,7 +166,7 @@ so_far_none a q t k i e = record {
 -- one symbol more
 module _ (ps : List ℕ) (a : Store) (q : Roots) (t : Term) (k : ℕ) (b : Store) (r : Roots) (s : SoFar a q t (suc k) b r) (y : Symbol)
     (h : Ready ps q.top b r y (after k (and1 t none1))) (l : k < size t) (d : Store) (u : Roots) where
-  pub read_more : (x : Unit {0}) →
+  read_more : (x : Unit {0}) →
       Made b r (r.top - takes ps y) (symbol_term b r (takes ps y) y) d u (Ok x) → SoFar a q t k d u
   read_more x m = let v = m.roots in
       let from1 : r.top - takes ps y ≡ q.top + (r.top - q.top - takes ps y) = omega (arith, h.enough, s.above) in
@@ -217,7 +217,7 @@ module _ (ps : List ℕ) (a : Store) (q : Roots) (t : Term) (k : ℕ) (b : Store
       let e : count h.rest ≡ r.top - q.top - takes ps y = ap count (sym h.others) ∙ down_count b r q.top _ in
       omega (arith, count_sizes (after k (and1 t none1)), after_sizes k (and1 t none1) (omega arith), h.enough, s.above)
 
-  pub read_stops : (f : Full) (w : Roots) →
+  read_stops : (f : Full) (w : Roots) →
       Made b r (r.top - takes ps y) (symbol_term b r (takes ps y) y) d u (Err f) → CutTo u q.top w →
       Read a q t d w (Err f)
   read_stops NoSlot w m c = record {
@@ -326,7 +326,7 @@ module _ (ps ws all rest pair : List ℕ) (a : Store) (q : Roots) (b : Store) (r
       }
 
 -- all symbols
-pub read_done : (a : Store) (q : Roots) (t : Term) (b : Store) (r : Roots) (x : Unit {0}) → SoFar a q t 0 b r → Read a q t b r (Ok x)
+read_done : (a : Store) (q : Roots) (t : Term) (b : Store) (r : Roots) (x : Unit {0}) → SoFar a q t 0 b r → Read a q t b r (Ok x)
 read_done a q t b r x s =
     let o = down_one b r q.top (r.top - q.top) t s.is in
     record {

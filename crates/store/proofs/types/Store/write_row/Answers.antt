@@ -1,5 +1,5 @@
 -- Each symbol that is written leaves the rest on the roots.
-use Rattle.std.proofs.Common.{◌≡◌, ℕ, ◌<◌, Err, ap, ◌∙◌, subst, arith}
+use Rattle.std.proofs.Common.{◌≡◌, ℕ, Err, ap, ◌∙◌, subst, arith}
 use Rattle.rewriting.specs.Terms.{size}
 use Rattle.rewriting.proofs.Glueing.{size_some}
 use Rattle.books.specs.Rows.{row}
