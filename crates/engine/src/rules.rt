@@ -25,7 +25,7 @@ fn match_rule(
     requires { (Rewritable book.now store.now p) × ((i < length (told book.now).rules) × (TopSign store.now p f)) }
     ensures { MatchedOn store.now nothing (rule_in book.now i).left (term_in store.now p.0) (given result bindings.new) }
 {
-    let left = book.left(i);
+    let left = book.rule(i).left;
     if left[1] != f {
         return false;
     }
@@ -58,5 +58,5 @@ pub fn rewrite(book: &Book, store: &mut Store, p: Place) -> Option<Place>
 {
     let mut bindings = Bindings::new();
     let i = find_rule(book, store, p, &mut bindings)?;
-    Some(row_instance(book.parts(), book.right(i), &bindings, store))
+    Some(row_instance(book.parts(), book.rule(i).right, &bindings, store))
 }

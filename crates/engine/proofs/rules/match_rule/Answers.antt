@@ -10,12 +10,12 @@ use Rattle.engine.proofs.rules.match_rule.Goals as goal
 
 pub bounds-left-1 : goal.bounds-left-1
 bounds-left-1 c =
-    omega (arith, (sign_told c.args.book.now c.args.store.now c.args.p c.requires.0 c.args.i c.requires.1.0 _ c.left-left.ensures).within)
+    omega (arith, (sign_told c.args.book.now c.args.store.now c.args.p c.requires.0 c.args.i c.requires.1.0 _ c.rule.ensures.left).within)
 
 pub returns-then-left-f : goal.returns-then-left-f
 returns-then-left-f c s g e =
     other_sign c.args.book.now c.args.store.now c.args.p c.requires.0 c.args.i c.requires.1.0 _ c.args.f
-    c.left-left.ensures c.if-left-f.true c.requires.1.1 s e
+    c.rule.ensures.left c.if-left-f.true c.requires.1.1 s e
 
 pub bind_pattern-requires-clause-pattern : goal.bind_pattern-requires-clause-pattern
 bind_pattern-requires-clause-pattern c = (
@@ -23,7 +23,7 @@ bind_pattern-requires-clause-pattern c = (
   (
     _,
     _,
-    left_pattern c.args.book.now c.args.i c.requires.1.0 _ c.args.store.now c.args.p c.left-left.ensures c.requires.0.fits,
+    left_pattern c.args.book.now c.args.i c.requires.1.0 _ c.args.store.now c.args.p c.rule.ensures.left c.requires.0.fits,
   ),
 )
 
@@ -38,4 +38,4 @@ returns c =
     subst (λ (b : Bindings). MatchedOn c.args.store.now b (rule_in c.args.book.now c.args.i).left (term_in c.args.store.now c.args.p.0)
     (given c.bind_pattern.result c.bind_pattern.new.bindings)) (fresh_is c.new.result c.new.ensures)
     (c.bind_pattern.ensures _ _
-    (left_pattern c.args.book.now c.args.i c.requires.1.0 _ c.args.store.now c.args.p c.left-left.ensures c.requires.0.fits))
+    (left_pattern c.args.book.now c.args.i c.requires.1.0 _ c.args.store.now c.args.p c.rule.ensures.left c.requires.0.fits))
