@@ -1,5 +1,4 @@
 // The sections that follow the names: equations, and rules with their ways.
-// Stays loops that count by hand: each ends with the text, and the count is what is told.
 ghost use Rattle.std.specs.Prelude.{◌+◌, ◌≤◌, IfOk, vec_len};
 ghost use Rattle.lexing.specs.declared.rows.TheConstants.{MOST_WORDS};
 
@@ -68,6 +67,7 @@ impl Parser<'_> {
         ensures few { IfOk result (λ n. n ≤ 64) }
     {
         let mut count = 0;
+        // Stays a loop, as in `Names::take_signs`; and what a closure had added to the row would not be known.
         while entry_comes(self.cursor, count, MOST_EQUATIONS, "equations")? {
             self.sides(row, Kind::Equals, "`=` and the equation's right side")?;
             count += 1;
@@ -77,6 +77,7 @@ impl Parser<'_> {
 
     // Takes the terms of a way, and tells how many.
     fn way_terms(&mut self, ways: &mut Ways) -> Result<u32, Error> {
+        // Stays a loop over numbers: it ends with the text, and the count is what is told.
         for count in 0..u32::MAX {
             if !self.cursor.take(Kind::Equals) {
                 return Ok(count);
@@ -118,6 +119,7 @@ impl Parser<'_> {
         ensures few { IfOk result (λ n. n ≤ 64) }
     {
         let mut count = 0;
+        // Stays a loop, as in `Names::take_signs`; and what a closure had added to the row would not be known.
         while entry_comes(self.cursor, count, MOST_RULES, "rules")? {
             self.sides(row, Kind::Arrow, "`->` and the rule's right side")?;
             self.way(ways)?;

@@ -36,7 +36,7 @@ impl Walk<'_, '_, '_> {
 
     // Puts the parts of the uppermost root's term in its place.
     fn expand(&mut self)
-        requires some { (Inside self.old.store.now self.old.roots.now) × (0 < self.old.roots.now.top) }
+        requires root { (Inside self.old.store.now self.old.roots.now) × (0 < self.old.roots.now.top) }
         requires has_roots { HasRoots self.old.roots.now.cells.now
             (self.old.roots.now.top - 1 + count (inner (held self.old.store.now self.old.roots.now (self.old.roots.now.top - 1)))) }
         ensures only { OnlyRoots self.old self.new }
