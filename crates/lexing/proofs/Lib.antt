@@ -1,2 +1,1 @@
--- Lemmas on places of a text.
-pub mod Places
+-- What the lexer proves needs no lemmas of its own.

@@ -28,7 +28,7 @@ use Rattle.store.specs.Stores.{held, terms_down}
 use Rattle.store.proofs.Sounds.{sound_in}
 use Rattle.store.proofs.Placing.{carried_then, carried_grown, grown_same}
 use Rattle.ways.specs.Steps.{StepTold}
-use Rattle.ways.specs.Showing.{RoomFor, WentOn, TermNext, NextTold, TermsNext, Followed, WayTold}
+use Rattle.ways.specs.Showing.{WentOn, TermNext, NextTold, TermsNext, Followed, WayTold}
 use Rattle.ways.specs.Walks.{Kept, OnlyRoots, UnderWay}
 use Rattle.ways.specs.declared.walk.Walk.{Walk}
 
@@ -80,14 +80,6 @@ one_size st q e =
     let d : sizes (terms_down st q 0 q.top) ≡ size (held st q (0 + 0)) + 0 = ap (λ (n : ℕ). sizes (terms_down st q 0 n)) e in
     let z : size (held st q (0 + 0)) ≡ size (held st q 0) = refl in
     omega arith
-
-no_size : (st : Store) (q : Roots) → q.top ≡ 0 → sizes (terms_down st q 0 q.top) ≡ 0
-no_size st q e = ap (λ (n : ℕ). sizes (terms_down st q 0 n)) e
-
-pub room_alone : (w : Walk) (q : Roots) (n : ℕ) → CutTo w.roots.now 0 q → n ≤ length w.book.now.words.now + length w.ways.now →
-    RoomFor w.store.now q n
-room_alone w q n cut l =
-    record { slots = omega (arith, no_size w.store.now q cut.top, w.slots); cells = omega (arith, w.cells, cut.top, ap length cut.cells) }
 
 -- the roots are taken away first
 pub kept_cut : (w : Walk) (q : Roots) → CutTo w.roots.now 0 q → (v : Walk) → v.book.now ≡ w.book.now → v.ways.now ≡ w.ways.now →
@@ -229,9 +221,6 @@ module _ (k : Book) (i : ℕ) (low : i < length (told k).rules) (ws : List ℕ) 
   pub left_short : ws ≡ row (rule_in k i).left → length ws ≤ length k.words.now
   left_short e = omega (arith, ap length e, row_length (rule_in k i).left, stands.left.long, stands.left.within)
 
-  pub right_short : ws ≡ row (rule_in k i).right → length ws ≤ length k.words.now
-  right_short e = omega (arith, ap length e, row_length (rule_in k i).right, stands.right.long, stands.right.within)
-
 -- the left side of a rule is read
 module _ (w : Walk) (i : ℕ) (low : i < length (told w.book.now).rules) (q : Roots) (none_yet : q.top ≡ 0)
     (v : Walk) (kept : Kept w v) (read : Stacked w.store.now q q.top (rule_in w.book.now i).left v.store.now v.roots.now) where
@@ -255,10 +244,6 @@ module _ (w : Walk) (i : ℕ) (low : i < length (told w.book.now).rules) (q : Ro
 
 -- from the left side t of a rule to its right side
 module _ (k : Book) (h : List ℕ) (i : ℕ) (t : Term) (left_is : t ≡ (rule_in k i).left) (from1 n : ℕ) (u : Term) where
-  pub way_stop : Followed k h from1 n t u None → WayTold k h from1 n (rule_in k i) None
-  way_stop f s rest x p = f s rest x (rule_in k i).right
-      (subst (λ (t2 : Term). Way (told k).parts (told k).eqs t2 s (rule_in k i).right) (sym left_is) p)
-
   pub way_told : (e : ℕ) → Followed k h from1 n t u (Some e) → (y : Bool) → Tells y (u ≡ (rule_in k i).right) →
       WayTold k h from1 n (rule_in k i) (then_some y e)
   way_told e f true same = λ s rest x.

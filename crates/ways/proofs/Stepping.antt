@@ -16,7 +16,7 @@ use Rattle.store.specs.declared.types.Roots.{Roots}
 use Rattle.store.specs.declared.types.Place.{Place}
 use Rattle.store.specs.declared.types.Full.{Full}
 use Rattle.store.specs.Roots.{HasRoots}
-use Rattle.store.specs.Stacks.{root_in, StackedOn, CutTo}
+use Rattle.store.specs.Stacks.{root_in, CutTo}
 use Rattle.store.specs.Stores.{term_in, part_in, parts_in, held, terms_down, Inside}
 use Rattle.store.specs.Transfers.{inner, PartsOrFull, RootsBelow}
 use Rattle.store.proofs.Sounds.{sound_in}
@@ -24,7 +24,7 @@ use Rattle.store.proofs.Emitting.{down_join, size_inner, sign_count, sign_below,
 use Rattle.store.proofs.Forests.{down_same, down_count}
 use Rattle.store.proofs.Telling.{one_place}
 use Rattle.ways.specs.Steps.{Equated, DifferAt, differ_first, differ_later, DifferIn, OnlyDifference, Itself, Itselves}
-use Rattle.ways.specs.Steps.{Comparable, Expanded, Walkable, Walked, TwoTerms, StepTold}
+use Rattle.ways.specs.Steps.{Comparable, Expanded, Walkable}
 use Rattle.ways.specs.declared.walk.Walk.{Walk}
 use Rattle.ways.specs.Walks.{OnlyRoots}
 use Rattle.ways.proofs.Onestep.{Inner, one_cases, one_top, one_up, inner_one, inner_apart, one_itself, itself_one, selves_on, selves_back}
@@ -223,59 +223,6 @@ walk_none k st base q r w l o =
     let e : terms_down st r base (r.top - base) ≡ none1 = ap (λ (n : ℕ). terms_down st r base n) z in
     let h : Itselves (told k).eqs none1 = subst (Itselves (told k).eqs) e (w.to (one_itself o refl)) in
     elim h.1 [ ]
-
--- two roots whose terms are one, or different
-module _ (k : Book) (st : Store) (q : Roots) (two : TwoTerms k st q) where
-  one_left : q.top - 1 ≡ 1
-  one_left = omega (arith, two.two)
-
-  pub walkable : Walkable k st q
-  walkable = record {
-    inside = two.inside;
-    some = omega (arith, two.two);
-    fits = subst (λ (n : ℕ). Fits (told k).parts (held st q n)) (sym one_left) two.second;
-    cells = subst (λ (n : ℕ). HasRoots q.cells.now (n + size (held st q n))) (sym one_left) two.cells;
-  }
-
-  pub step_same : (r : Roots) (x : Bool) → held st q 0 ≡ held st q 1 → Walked k st q r x → StepTold k st q r x
-  step_same r x e w =
-      let long = w.below.long in
-      let low : 0 < q.top - 1 = omega (arith, one_left) in
-      record {
-        result = subst (λ (t : Term). Tells x (One (told k).eqs t (held st q 1))) (sym e)
-            (subst (λ (n : ℕ). Tells x (One (told k).eqs (held st q n) (held st q n))) one_left w.result);
-        top = w.top ∙ one_left;
-        long = long;
-        inside = record {
-          fits = omega (arith, two.inside.fits, w.top);
-          low = λ j l. subst (λ (i : ℕ). i < st.count) (sym (w.below.rest j (omega (arith, w.top))))
-              (two.inside.low j (omega (arith, w.top)));
-        };
-        term = ap (λ (i : ℕ). term_in st i) (w.below.rest 0 low) ∙ e;
-      }
-
-  module _ (x y : Place) (ex : x.0 ≡ root_in q 0) (ey : y.0 ≡ root_in q 1) where
-    pub step_can : Comparable k st x y
-    step_can = record {
-      left = omega (arith, two.inside.low 0 (omega (arith, two.two)));
-      right = omega (arith, two.inside.low 1 (omega (arith, two.two)));
-      left_fits = subst (λ (i : ℕ). Fits (told k).parts (term_in st i)) (sym ex) two.first;
-      right_fits = subst (λ (i : ℕ). Fits (told k).parts (term_in st i)) (sym ey) two.second;
-    }
-
-    pub step_other : (r : Roots) (z : Bool) → Tells z (One (told k).eqs (term_in st x.0) (term_in st y.0)) →
-        StackedOn q 0 y.0 r → StepTold k st q r z
-    step_other r z t s = record {
-      result = subst₂ (λ (i j : ℕ). Tells z (One (told k).eqs (term_in st i) (term_in st j))) ex ey t;
-      top = s.top;
-      long = s.long;
-      inside = record {
-        fits = omega (arith, two.inside.fits, two.two, s.top, s.long);
-        low = λ j l. subst (λ (i : ℕ). root_in r i < st.count) (let e : 0 ≡ j = omega (arith, s.top) in e)
-            (omega (arith, s.is, step_can.right));
-      };
-      term = ap (λ (i : ℕ). term_in st i) (s.is ∙ ey);
-    }
 
 -- a walk whose book and store are the same
 pub only_same : (w : Walk) → OnlyRoots w w
