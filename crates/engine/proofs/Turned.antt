@@ -63,7 +63,7 @@ module _ (b : Book) (low : ℕ) (st : Store) (q : Roots) (fr : Frames) where
     pub top_frame : TopFrame (work st q fr) top
     top_frame =
         let w = framed_more rs low st q fr v ready.running pos in
-        record { some = pos; long = ready.running.long; is = refl; few = w.0; enough = w.2; fits = ready.running.inside.fits }
+        record { some = pos; is = refl; few = w.0; enough = w.2; fits = ready.running.inside.fits }
 
     pub done_few : top.done ≤ top.others
     done_few = (framed_more rs low st q fr v ready.running pos).1

@@ -72,8 +72,6 @@ pub record Running (rs : List Eq) (low : ℕ) (w : Work) (c : Focus) : Type 0 wh
   pub honest : Honest rs w.store
   pub inside : Inside w.store w.roots
   pub framed : Framed w.frames.words.now w.frames.depth w.roots.top low
-  pub long : 4 * w.frames.depth ≤ length w.frames.words.now
-  pub fresh : w.frames.fresh ≤ w.frames.depth
   pub focus : focus_place c < w.store.count
   pub asked : Asks (AskedFor rs w.store w.frames) (frames_in w) (term_in w.store (focus_place c))
 
