@@ -16,3 +16,4 @@ pub mod Spaced
 pub mod RunningOn
 pub mod Comparing
 pub mod Pairing
+pub mod Keeping

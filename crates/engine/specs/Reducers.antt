@@ -5,7 +5,7 @@ use Rattle.engine.specs.declared.reducer.Reducer.{Reducer}
 
 -- the rules are the same, and the work words are the ones that were lent
 pub record Lent (r s : Reducer) : Type 0 where
-  pub rules : s.rules ≡ r.rules
+  pub rules : s.rules.now ≡ r.rules.now
   pub lent : s.work.ghost_name ≡ r.work.ghost_name
 
 -- no words are lost, and no roots are left

@@ -25,9 +25,9 @@ fn exchange(roots: &mut Roots)
 impl Reducer<'_, '_, '_> {
     // Brings the terms of both roots to normal form, and exchanges them.
     fn both_normal(&mut self) -> Result<(), NoRoom>
-        requires { TwoRoots self.old.rules.book self.old.work.now }
+        requires { TwoRoots self.old.rules.now.book self.old.work.now }
         ensures lent { Lent self.old self.new }
-        ensures normal { BothNormal self.old.rules.book self.old.work.now self.new.work.now result }
+        ensures normal { BothNormal self.old.rules.now.book self.old.work.now self.new.work.now result }
     {
         self.normalize()?;
         exchange(&mut self.work.roots);
@@ -36,22 +36,24 @@ impl Reducer<'_, '_, '_> {
 
     // Compares the terms of the two roots. One place has one term, so then no step is needed.
     fn compare_roots(&mut self) -> Result<bool, NoRoom>
-        requires { TwoRoots self.old.rules.book self.old.work.now }
+        requires { TwoRoots self.old.rules.now.book self.old.work.now }
         ensures lent { Lent self.old self.new }
-        ensures compared { RootsCompared self.old.rules.book self.old.work.now self.new.work.now result }
+        ensures compared { RootsCompared self.old.rules.now.book self.old.work.now self.new.work.now result }
     {
-        if self.work.store.same(self.work.roots.place(0), self.work.roots.place(1)) {
+        let work = &*self.work;
+        if work.store.same(work.roots.place(0), work.roots.place(1)) {
             return Ok(true);
         }
         self.both_normal()?;
-        Ok(self.work.store.same(self.work.roots.place(0), self.work.roots.place(1)))
+        let work = &*self.work;
+        Ok(work.store.same(work.roots.place(0), work.roots.place(1)))
     }
 
     // Whether the terms of the two roots have one normal form; takes both roots away.
     pub fn compare(&mut self) -> Result<bool, NoRoom>
-        requires { TwoRoots self.old.rules.book self.old.work.now }
+        requires { TwoRoots self.old.rules.now.book self.old.work.now }
         ensures idle { LeftIdle self.old self.new }
-        ensures result { (n : ℕ) → Ample n self.old.work.now → Compares self.old.rules.book n
+        ensures result { (n : ℕ) → Ample n self.old.work.now → Compares self.old.rules.now.book n
             (root_term self.old.work.now 0) (root_term self.old.work.now 1) result }
     {
         let found = self.compare_roots();

@@ -29,16 +29,17 @@ impl Work<'_> {
 impl Reducer<'_, '_, '_> {
     // Puts the normal form of the uppermost root's term in its place; or takes this root away, for want of space.
     pub fn normalize(&mut self) -> Result<(), NoRoom>
-        requires { Startable self.old.rules.book self.old.work.now }
+        requires { Startable self.old.rules.now.book self.old.work.now }
         ensures lent { Lent self.old self.new }
-        ensures normal { Normalized self.old.rules.book self.old.work.now self.new.work.now result }
+        ensures normal { Normalized self.old.rules.now.book self.old.work.now self.new.work.now result }
     {
+        let book = &self.rules.book;
         let low = self.work.roots.top - 1;
         let mut focus = Focus::Eval(self.work.roots.place(low));
         self.work.roots.truncate(low);
         self.work.frames.clear();
         loop {
-            match self.work.step(&self.rules.book, focus) {
+            match self.work.step(book, focus) {
                 Ok(ControlFlow::Continue(next)) => focus = next,
                 Ok(ControlFlow::Break(v)) => {
                     self.work.roots.stack(low, v);

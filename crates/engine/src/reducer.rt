@@ -8,7 +8,7 @@ use order::Terminating;
 // What brings terms to normal form by a book's rules. What the store notes is true by these rules.
 #[derive(Drop)]
 pub struct Reducer<'b, 'w, 'a> {
-    pub rules: Terminating<'b>,
+    pub rules: &'b Terminating<'b>,
     pub work: &'w mut Work<'a>,
-    pub ghost honest: { ∥ Honest (told rules.book).rules work.now.store ∥₁ },
+    pub ghost honest: { ∥ Honest (told rules.now.book).rules work.now.store ∥₁ },
 }

@@ -37,20 +37,17 @@ impl Work<'_> {
 
 impl Reducer<'_, '_, '_> {
     // Whether the terms of two rows have one normal form; none if the words are not such rows.
-    pub fn compare_rows(
-        &mut self,
-        left: &[u32],
-        right: &[u32],
-    ) -> Option<Result<bool, NoRoom>>
+    pub fn compare_rows(&mut self, left: &[u32], right: &[u32]) -> Option<Result<bool, NoRoom>>
         requires { self.old.work.now.roots.top ≡ 0 }
         ensures idle { LeftIdle self.old self.new }
-        ensures result { RowsCompared self.old.rules.book self.old.work.now left.now right.now result }
+        ensures result { RowsCompared self.old.rules.now.book self.old.work.now left.now right.now result }
     {
-        if !are_terms(&self.rules.book, left, right) {
+        let book = &self.rules.book;
+        if !are_terms(book, left, right) {
             return None;
         }
         // Stays without `?`: the roots are taken away before the refusal is handed on.
-        if let Err(e) = self.work.read_rows(&self.rules.book, left, right) {
+        if let Err(e) = self.work.read_rows(book, left, right) {
             self.work.roots.truncate(0);
             return Some(Err(e));
         }
