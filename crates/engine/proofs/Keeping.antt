@@ -1,5 +1,5 @@
 -- What the type of reducers keeps: the rules go down, and what the store notes is true by them.
-use Rattle.std.proofs.Common.{ℕ, ◌≤◌, List, ◌∙◌}
+use Rattle.std.proofs.Common.{ℕ, ◌≤◌, List, ◌∙◌, arith}
 use mathlib.Core.HLevel.{⊥_prop, Π_prop}
 use mathlib.Core.Logic.{∥∥₁_elim, ∥∥₁_map}
 use native.Mathlib.Decide.{dec_le}
@@ -14,7 +14,9 @@ use Rattle.books.specs.Books.{told}
 use Rattle.order.proofs.Descent.{rules_down}
 use Rattle.engine.specs.declared.reducer.Reducer.{Reducer}
 use Rattle.engine.specs.Running.{Honest}
-use Rattle.engine.specs.Reducers.{Lent}
+use Rattle.engine.specs.declared.work.Work.{Work}
+use Rattle.engine.specs.Meeting.{Ample}
+use Rattle.engine.specs.Reducers.{Lent, Idle, LeftIdle}
 
 -- the bare fact gives back what the store notes
 module _ (rs : List Eq) (keep : NoNewLetters rs) (st : Store) (h : ∥ Honest rs st ∥₁) where
@@ -46,3 +48,17 @@ module _ (r : Reducer) where
 -- one piece of work after another
 pub lent_then : {r s t : Reducer} → Lent r s → Lent s t → Lent r t
 lent_then d e = record { rules = e.rules ∙ d.rules; lent = e.lent ∙ d.lent }
+
+pub idle_on : {u v w : Work} → Idle u v → Idle v w → Idle u w
+idle_on d e = record { room = e.room ∙ d.room; cells = e.cells ∙ d.cells; words = e.words ∙ d.words; none = e.none }
+
+pub idle_then : {r s t : Reducer} → LeftIdle r s → LeftIdle s t → LeftIdle r t
+idle_then d e = record { lent = lent_then d.lent e.lent; idle = idle_on d.idle e.idle }
+
+-- there is as much room as before
+pub ample_still : {w v : Work} {n : ℕ} → Idle w v → Ample n w → Ample n v
+ample_still d a = record {
+  slots = omega (arith, a.slots, d.room);
+  cells = omega (arith, a.cells, d.cells);
+  words = omega (arith, a.words, d.words);
+}
