@@ -46,7 +46,7 @@ pub fn one_end(reducer: &mut Reducer) -> Result<bool, NoRoom>
     let mut found = true;
     'pairs: for i in 0..rules {
         for j in 0..rules {
-            for k in 0..book.left(i).len() / 2 {
+            for k in 0..book.rule(i).left.len() / 2 {
                 let meet = results_meet(reducer, i, j, k)?;
                 if !meet {
                     found = false;

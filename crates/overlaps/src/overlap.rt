@@ -26,9 +26,9 @@ pub fn overlap_at(rules: &Terminating, i: usize, j: usize, k: usize) -> Option<O
     ensures { OverlapOrNone rules.now.book i j k result }
 {
     let book = &rules.book;
-    let left = book.left(i);
+    let left = book.rule(i).left;
     let from = 2 * k;
-    if !same_sign(left, from, book.left(j)) {
+    if !same_sign(left, from, book.rule(j).left) {
         return None;
     }
     let to = term_end(Letters::Small, book.parts(), left, from)?;

@@ -18,7 +18,7 @@ results_meet-requires c =
       room = (c.requires.room.0, ample_still d.idle c.requires.room.1);
       rules = (rule_still d _ (omega (arith, c.pairs-test.true, c.rules-rules.ensures, (sound_book_in b).laid.rules)),
           rule_still d _ (omega (arith, c.loop-j-test.true, c.rules-rules.ensures, (sound_book_in b).laid.rules)));
-      symbol = symbol_still d _ _ (omega (arith, c.loop-k-test.true, ap length c.left.ensures, row_length (rule_in b c.pairs.i).left));
+      symbol = symbol_still d _ _ (omega (arith, c.loop-k-test.true, ap length c.rule.ensures.left, row_length (rule_in b c.pairs.i).left));
     }
 
 pub loop-k-preserved : goal.loop-k-preserved
@@ -52,7 +52,7 @@ loop-j-preserved c =
     record {
       idle = idle_then c.loop-j.invariant.idle c.loop-k.invariant.idle;
       joined = joined_symbols b c.pairs.i c.loop-j.j c.loop-k.k
-          (omega (arith, ap length c.left.ensures, row_length (rule_in b c.pairs.i).left)) c.loop-k.invariant.joined;
+          (omega (arith, ap length c.rule.ensures.left, row_length (rule_in b c.pairs.i).left)) c.loop-k.invariant.joined;
       none = c.loop-k.invariant.none;
     }
 
