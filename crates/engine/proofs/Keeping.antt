@@ -42,8 +42,9 @@ module _ (r : Reducer) where
   down_in = rules_down r.rules.now
 
   pub honest_in : Honest (told r.rules.now.book).rules r.work.now.store
-  honest_in = honest_again (told r.rules.now.book).rules (down_letters (rank (told r.rules.now.book).ranks) (told r.rules.now.book).rules down_in)
-      r.work.now.store r.honest
+  honest_in =
+      let b = told r.rules.now.book in
+      honest_again b.rules (down_letters (rank b.ranks) b.rules down_in) r.work.now.store r.honest
 
 -- one piece of work after another
 pub lent_then : {r s t : Reducer} → Lent r s → Lent s t → Lent r t

@@ -15,7 +15,7 @@ use Rattle.books.proofs.Bookish.{equation_sides, equation_at}
 use Rattle.order.specs.declared.terminating.Terminating.{Terminating}
 use Rattle.engine.specs.declared.types.NoRoom.{NoRoom}
 use Rattle.engine.specs.declared.work.Work.{Work}
-use Rattle.engine.specs.Meeting.{Ample, Compares}
+use Rattle.engine.specs.Meeting.{Compares}
 use Rattle.engine.specs.declared.reducer.Reducer.{Reducer}
 use Rattle.engine.specs.Reducers.{LeftIdle}
 use Rattle.engine.proofs.Keeping.{ample_still}

@@ -18,7 +18,7 @@ fn sides_meet(reducer: &mut Reducer, i: usize) -> Result<bool, NoRoom>
     ensures idle { LeftIdle reducer.old reducer.new }
     ensures result { (n : ℕ) → AmpleFor reducer.old.rules.now.book n reducer.old.work.now →
         Compares reducer.old.rules.now.book n (equation_in reducer.old.rules.now.book i).left
-            (equation_in reducer.old.rules.now.book i).right result }
+        (equation_in reducer.old.rules.now.book i).right result }
 {
     let book = &reducer.rules.book;
     let Sides { left, right } = book.equation(i);

@@ -1,11 +1,9 @@
 -- What the type of books whose rules go down keeps.
-use Rattle.std.proofs.Common.{◌≡◌, ℕ, List}
-use mathlib.Core.Option.{some}
+use Rattle.std.proofs.Common.{List}
 use mathlib.Core.HLevel.{⊥_prop}
 use mathlib.Core.Logic.{∥∥₁_elim}
-use Rattle.rewriting.specs.Terms.{nth}
 use Rattle.rewriting.specs.Rules.{Eq}
-use Rattle.rewriting.specs.Order.{Rank, rank, Greater, AllDown}
+use Rattle.rewriting.specs.Order.{Rank, rank, AllDown}
 use Rattle.rewriting.proofs.Comparing.{dec_greater}
 use Rattle.books.specs.Books.{told}
 use Rattle.order.specs.declared.terminating.Terminating.{Terminating}

@@ -80,5 +80,5 @@ returns-in_err-written c =
     (Err c.in_err-written.field-0.0)) e c.in_err-written.ensures.written in
     let p = err_from_is_err_and c.from_residual-in_err-written.result c.from_residual-in_err-written.ensures.1 in
     rw (p.1, p.2) λ n m.
-    refused (told c.args.reducer.now.rules.now.book) c.args.term.now c.args.out.now c.write_row.new.out c.normalize.new.self.work.now.roots _ n
-    (one_root _ _ _ _ _ d _ x) (cells_long _ _ _ _ _ d _ x n m) (normal _ _ _ _ _ d _ x) _ w
+    refused (told c.args.reducer.now.rules.now.book) c.args.term.now c.args.out.now c.write_row.new.out
+    c.normalize.new.self.work.now.roots _ n (one_root _ _ _ _ _ d _ x) (cells_long _ _ _ _ _ d _ x n m) (normal _ _ _ _ _ d _ x) _ w

@@ -16,35 +16,47 @@ results_meet-requires c =
     record {
       none = d.idle.none;
       room = (c.requires.room.0, ample_still d.idle c.requires.room.1);
-      rules = (rule_still d _ (omega (arith, c.pairs-test.true, c.rules-rules.ensures, (sound_book_in b).laid.rules)),
-          rule_still d _ (omega (arith, c.loop-j-test.true, c.rules-rules.ensures, (sound_book_in b).laid.rules)));
+      rules = (
+        rule_still d _ (omega (arith, c.pairs-test.true, c.rules-rules.ensures, (sound_book_in b).laid.rules)),
+        rule_still d _ (omega (arith, c.loop-j-test.true, c.rules-rules.ensures, (sound_book_in b).laid.rules)),
+      );
       symbol = symbol_still d _ _ (omega (arith, c.loop-k-test.true, ap length c.rule.ensures.left, row_length (rule_in b c.pairs.i).left));
     }
 
 pub loop-k-preserved : goal.loop-k-preserved
 loop-k-preserved c =
-    let r = c.args.reducer.now in
+    let b = c.args.reducer.now.rules.now.book in
+    let i = c.pairs.i in
+    let j = c.loop-j.j in
+    let k = c.loop-k.k in
+    let n = c.requires.room.0 in
     let d = idle_then (idle_then c.pairs.invariant.idle c.loop-j.invariant.idle) c.loop-k.invariant.idle in
+    let told = says_still d n i j k (Ok c.in_ok-meet.meet) (c.in_ok-meet.ensures.result n (ample_still d.idle c.requires.room.1)) in
     record {
       idle = idle_then c.loop-k.invariant.idle c.results_meet.ensures.idle;
-      joined = joined_more r.rules.now.book c.pairs.i c.loop-j.j c.loop-k.k c.loop-k.invariant.joined
-          (subst (λ (x : Bool). OverlapSays r.rules.now.book c.requires.room.0 c.pairs.i c.loop-j.j c.loop-k.k (Ok x)) c.if-not-meet.false
-          (says_still d c.requires.room.0 c.pairs.i c.loop-j.j c.loop-k.k (Ok c.in_ok-meet.meet) (c.in_ok-meet.ensures.result c.requires.room.0 (ample_still d.idle c.requires.room.1))));
+      joined = joined_more b i j k c.loop-k.invariant.joined
+          (subst (λ (x : Bool). OverlapSays b n i j k (Ok x)) c.if-not-meet.false told);
       none = c.loop-k.invariant.none;
     }
 
 pub returns-in_err-meet-clause-result : goal.returns-in_err-meet-clause-result
 returns-in_err-meet-clause-result c n a =
+    let i = c.pairs.i in
+    let j = c.loop-j.j in
+    let k = c.loop-k.k in
     let d = idle_then (idle_then c.pairs.invariant.idle c.loop-j.invariant.idle) c.loop-k.invariant.idle in
     let p = err_from_is_err_and c.from_residual.result c.from_residual.ensures.1 in
-    rw p.1 (says_still d n c.pairs.i c.loop-j.j c.loop-k.k (Err c.in_err-meet.field-0.0) (c.in_err-meet.ensures.result n (ample_still d.idle a)))
+    rw p.1 (says_still d n i j k (Err c.in_err-meet.field-0.0) (c.in_err-meet.ensures.result n (ample_still d.idle a)))
 
 pub returns-then-not-meet-clause-result : goal.returns-then-not-meet-clause-result
 returns-then-not-meet-clause-result c n a =
-    let r = c.args.reducer.now in
+    let b = c.args.reducer.now.rules.now.book in
+    let i = c.pairs.i in
+    let j = c.loop-j.j in
+    let k = c.loop-k.k in
     let d = idle_then (idle_then c.pairs.invariant.idle c.loop-j.invariant.idle) c.loop-k.invariant.idle in
-    subst (λ (x : Bool). OverlapSays r.rules.now.book n c.pairs.i c.loop-j.j c.loop-k.k (Ok x)) c.if-not-meet.true
-    (says_still d n c.pairs.i c.loop-j.j c.loop-k.k (Ok c.in_ok-meet.meet) (c.in_ok-meet.ensures.result n (ample_still d.idle a)))
+    let told = says_still d n i j k (Ok c.in_ok-meet.meet) (c.in_ok-meet.ensures.result n (ample_still d.idle a)) in
+    subst (λ (x : Bool). OverlapSays b n i j k (Ok x)) c.if-not-meet.true told
 
 pub loop-j-preserved : goal.loop-j-preserved
 loop-j-preserved c =
