@@ -1,5 +1,5 @@
 -- From a term's row to that of its normal form.
-use Rattle.std.proofs.Common.{◌≡◌, ℕ, ◌+◌, ◌-◌, ◌*◌, ◌<◌, ◌≤◌, List, [], ◌∷◌, length, Ok, Err, Result, sym, ap, ◌∙◌}
+use Rattle.std.proofs.Common.{◌≡◌, ℕ, ◌+◌, ◌-◌, ◌*◌, ◌<◌, ◌≤◌, List, [], ◌∷◌, length, Some, Ok, Err, Result, sym, ap, ◌∙◌}
 use Rattle.std.proofs.Common.{subst, arith}
 use native.Mathlib.Decide.{dec_lt}
 use Rattle.rewriting.specs.Terms.{Term, size, Fits, SmallLetter}
@@ -24,14 +24,16 @@ use Rattle.store.specs.declared.types.Short.{Short}
 use Rattle.store.specs.declared.types.Short.TheVariants.{NoWord, NoCell}
 use Rattle.store.specs.Stores.{Inside, held}
 use Rattle.store.specs.Transfers.{RowOf, Read, WrittenOrShort}
-use Rattle.order.specs.Downward.{GoesDown}
+use Rattle.order.specs.declared.terminating.Terminating.{Terminating}
+use Rattle.order.specs.Downward.{GoesDown, FirstUp}
+use Rattle.order.specs.Terminating.{KnownOrUp}
 use Rattle.engine.specs.declared.types.NoRoom.{NoRoom}
 use Rattle.engine.specs.declared.work.Work.{Work}
-use Rattle.engine.specs.Running.{Honest}
 use Rattle.engine.specs.Normal.{Startable, Normalized}
 use Rattle.engine.specs.Spacing.{Wanting, few_slots, few_words, few_cells}
 use Rattle.engine.specs.Meeting.{most_parts, Ample}
-use Rattle.engine.proofs.Honesty.{honest_carried}
+use Rattle.std.specs.Result.{MatchResult, IsErrAnd}
+use Rattle.calls.specs.declared.types.Refusal.{Refusal}
 use Rattle.calls.specs.declared.types.Refusal.TheVariants.{NoBook, Up, NoTerm, Room, Long, Few}
 use Rattle.calls.specs.Calls.{Answer, NormalForm, Outgrown, NormalAnswers, WordsAnswer, refusal_of}
 
@@ -71,6 +73,15 @@ pub up_not_down : (k : Book) (i : ℕ) → i < length (told k).rules → (GoesDo
     AllDown (rank (told k).ranks) (told k).rules → ⊥
 up_not_down k i l n d = n (d i _ (is_rule k (sound_book_in k) i l))
 
+ok-err : {t : Terminating} {f : Refusal} → ◌≡◌ {A = Result Terminating Refusal} (Ok t) (Err f) → ⊥
+ok-err e = let z : ◌≡◌ {A = ℕ} 0 1 = cc in omega arith
+
+-- a book that is not known to go down has a first rule that does not
+pub up_first : (b : Book) (x : Result Terminating ℕ) (y : Result Terminating Refusal) (f : Refusal) → KnownOrUp b x →
+    MatchResult x (λ t. y ≡ Ok t) (λ i. IsErrAnd y (λ r. r ≡ Up i)) → y ≡ Err f → (i : ℕ) × (f ≡ Up i) × FirstUp b (Some i)
+up_first b (Ok t) y f h e d = absurd (ok-err (sym e ∙ d))
+up_first b (Err i) y f h e d = (i, subst (λ (o : Result Terminating Refusal). IsErrAnd o (λ r. r ≡ Up i)) d e, h)
+
 -- the parts, as a program has them
 module _ (k : Book) (ps : List ℕ) (e : ps ≡ (told k).parts) where
   pub few_parts : FewParts ps
@@ -86,7 +97,6 @@ module _ (k : Book) (ps : List ℕ) (e : ps ≡ (told k).parts) where
 
 -- what is known once a term's row is read into an empty store; x says whether there was space
 pub record Loading (k : Book) (ts : List ℕ) (w : Work) (b : Store) (r : Roots) (x : Result (Unit {0}) Full) : Type 0 where
-  pub down : AllDown (rank (told k).ranks) (told k).rules
   pub term : Term
   pub of : Of (told k).parts ts term
   pub none : w.store.count ≡ 0
@@ -94,11 +104,11 @@ pub record Loading (k : Book) (ts : List ℕ) (w : Work) (b : Store) (r : Roots)
   pub read : Read w.store w.roots term b r x
 
 pub loading : (k : Book) (ts ps : List ℕ) (w : Work) (b : Store) (r : Roots) (x : Result (Unit {0}) Full) →
-    AllDown (rank (told k).ranks) (told k).rules → ((t : Term) × Of (told k).parts ts t) →
+    ((t : Term) × Of (told k).parts ts t) →
     ((w.store.count ≡ 0) × (w.roots.top ≡ 0)) → ps ≡ (told k).parts →
     ((t : Term) → RowOf ps ts t → Read w.store w.roots t b r x) → Loading k ts w b r x
-loading k ts ps w b r x down (t, of) (none, bare) e reads =
-    record { down = down; term = t; of = of; none = none; bare = bare; read = reads t (row_here k ps e ts t of) }
+loading k ts ps w b r x (t, of) (none, bare) e reads =
+    record { term = t; of = of; none = none; bare = bare; read = reads t (row_here k ps e ts t of) }
 
 module _ (k : Book) (ts : List ℕ) (w : Work) (b : Store) (r : Roots) where
   pub not_read : (x : Full) → Loading k ts w b r (Err x) → (n : ℕ) → Ample n w → Outgrown (told k) ts n
@@ -118,18 +128,8 @@ module _ (k : Book) (ts : List ℕ) (w : Work) (b : Store) (r : Roots) where
     held_top : held b r (r.top - 1) ≡ d.term
     held_top = let z : r.top - 1 ≡ 0 = omega (arith, top_one) in ap (λ (j : ℕ). held b r j) z ∙ held_first
 
-    nothing_told : Honest (told k).rules w.store
-    nothing_told = record {
-      flags = λ i l. absurd (omega (arith, d.none));
-      inside = λ i l. absurd (omega (arith, d.none));
-      steps = λ i l. absurd (omega (arith, d.none));
-      done = λ i l. absurd (omega (arith, d.none));
-    }
-
     pub startable : Startable k loaded
     startable = record {
-      down = d.down;
-      honest = honest_carried (told k).rules w.store b nothing_told d.read.carried;
       inside = d.read.roots.inside;
       some = omega (arith, top_one);
       fits = subst (Fits (told k).parts) (sym held_top) (over_fits (told k).parts SmallLetter d.term d.of.fits);

@@ -1,6 +1,5 @@
 // The normal form of a term, from rows to a row.
 ghost use Rattle.std.specs.Prelude.{◌≡◌, ℕ, length};
-ghost use Rattle.rewriting.specs.Order.{rank, AllDown};
 ghost use Rattle.rewriting.specs.Terms.{Term};
 ghost use Rattle.books.specs.Books.{told};
 ghost use Rattle.books.specs.Rows.{Of};
@@ -9,32 +8,44 @@ ghost use Rattle.calls.specs.Calls.{Answers, NormalAnswers, WordsAnswer};
 
 use crate::types::Refusal;
 use books::{Book, is_term};
-use engine::work::{Work, share_out};
-use order::first_up;
+use engine::Reducer;
+use engine::work::share_out;
+use order::Terminating;
 
 // Reads a term's row into an empty store, and writes the row of its normal form; says how many words that is.
-fn through(book: &Book, term: &[u32], work: &mut Work, out: &mut [u32]) -> Result<usize, Refusal>
-    requires down { AllDown (rank (told book.now).ranks) (told book.now).rules }
-    requires of { (t : Term) × Of (told book.now).parts term.now t }
-    requires empty { (work.old.store.count ≡ 0) × (work.old.roots.top ≡ 0) }
-    ensures { (n : ℕ) → Ample n work.old → NormalAnswers (told book.now) term.now n (length out.old) out.new result }
+fn through(reducer: &mut Reducer, term: &[u32], out: &mut [u32]) -> Result<usize, Refusal>
+    requires of { (t : Term) × Of (told reducer.old.rules.now.book).parts term.now t }
+    requires empty { (reducer.old.work.now.store.count ≡ 0) × (reducer.old.work.now.roots.top ≡ 0) }
+    ensures { (n : ℕ) → Ample n reducer.old.work.now →
+        NormalAnswers (told reducer.old.rules.now.book) term.now n (length out.old) out.new result }
 {
+    let book = &reducer.rules.book;
+    let work = &mut *reducer.work;
     work.store.read_row(&mut work.roots, book.parts(), term)?;
-    work.normalize(book)?;
+    reducer.normalize()?;
+    let work = &mut *reducer.work;
     let normal = work.roots.place(0);
     let written = work.store.write_row(&mut work.roots, normal, out)?;
     Ok(written)
 }
 
 // The same in lent words.
-fn in_words(book: &Book, term: &[u32], work: &mut [u32], out: &mut [u32]) -> Result<usize, Refusal>
-    requires down { AllDown (rank (told book.now).ranks) (told book.now).rules }
-    requires of { (t : Term) × Of (told book.now).parts term.now t }
-    ensures { WordsAnswer (told book.now) term.now (length work.old) (length out.old)
+fn in_words(
+    rules: &Terminating,
+    term: &[u32],
+    work: &mut [u32],
+    out: &mut [u32],
+) -> Result<usize, Refusal>
+    requires { (t : Term) × Of (told rules.now.book).parts term.now t }
+    ensures { WordsAnswer (told rules.now.book) term.now (length work.old) (length out.old)
         out.new result }
 {
     let mut work = share_out(work).ok_or(Refusal::Few)?;
-    through(book, term, &mut work, out)
+    let mut reducer = Reducer {
+        rules,
+        work: &mut work,
+    };
+    through(&mut reducer, term, out)
 }
 
 // Writes the row of the normal form of a term of a book whose rules go down, both given by their rows; says how many words that is.
@@ -48,11 +59,9 @@ pub fn answer(
         out.new result }
 {
     let book = Book::read(words).ok_or(Refusal::NoBook)?;
-    if let Some(i) = first_up(&book) {
-        return Err(Refusal::Up(i));
-    }
-    if !is_term(book.parts(), term) {
+    let rules = Terminating::new(book).map_err(Refusal::Up)?;
+    if !is_term(rules.book.parts(), term) {
         return Err(Refusal::NoTerm);
     }
-    in_words(&book, term, work, out)
+    in_words(&rules, term, work, out)
 }

@@ -17,7 +17,7 @@ use Rattle.engine.specs.declared.types.NoRoom.{NoRoom}
 use Rattle.engine.specs.declared.work.Work.{Work}
 use Rattle.engine.specs.Spacing.{Wanting, few_slots, few_words, few_cells}
 use Rattle.engine.specs.Normal.{root_term, Startable, Normalized}
-use Rattle.engine.specs.Meeting.{Ample, Working, TwoRoots, Exchanged, BothOrRoom, BothNormal, RootsCompared}
+use Rattle.engine.specs.Meeting.{Ample, TwoRoots, Exchanged, BothOrRoom, BothNormal, RootsCompared}
 
 pub both_parts : (u v : Term) → different (u ∷ v ∷ []) ≤ different (u ∷ []) + different (v ∷ [])
 both_parts u v = different_both (u ∷ []) (v ∷ []) (u ∷ v ∷ []) split
@@ -45,20 +45,14 @@ module _ (b : Book) (w : Work) where
   rs = (told b).rules
 
   -- the upper of two roots may be brought to normal form
-  pub upper : Working b w.store → TwoRoots b w → Startable b w
-  upper ok t = record {
-    down = ok.down;
-    honest = ok.honest;
+  pub upper : TwoRoots b w → Startable b w
+  upper t = record {
     inside = t.inside;
     some = omega (arith, t.two);
     fits = subst (λ (k : ℕ). Fits (told b).parts (root_term w k)) (omega (arith, t.two)) t.second;
   }
 
   module _ (v : Work) where
-    -- the store works on
-    pub working_on : {x : _} → Working b w.store → Normalized b w v x → Working b v.store
-    working_on ok n = record { down = ok.down; honest = n.honest }
-
     -- the upper root's normal form, with the lower one kept
     pub steps_upper : w.roots.top ≡ 2 → Normalized b w v (Ok tt) → Steps rs (root_term w 1) (root_term v 1)
     steps_upper e n = subst (λ (k : ℕ). Steps rs (root_term w k) (root_term v k)) (omega (arith, e)) n.result.1
@@ -78,11 +72,10 @@ module _ (b : Book) (w : Work) where
           | inr l ↦ inr l
         ]
 
-    pub first_none : Working b w.store → TwoRoots b w → {e : NoRoom} → Normalized b w v (Err e) →
+    pub first_none : TwoRoots b w → {e : NoRoom} → Normalized b w v (Err e) →
         (x : Result (Unit {0}) NoRoom) → IsErr x → BothNormal b w v x
-    first_none ok t h (Ok _) f = absurd (false≢true f)
-    first_none ok t h (Err _) f = record {
-      working = working_on ok h;
+    first_none t h (Ok _) f = absurd (false≢true f)
+    first_none t h (Err _) f = record {
       inside = h.inside;
       room = h.room;
       cells = h.cells;
@@ -93,7 +86,7 @@ module _ (b : Book) (w : Work) where
       ];
     }
 
-module _ (b : Book) (w : Work) (ok : Working b w.store) (t : TwoRoots b w)
+module _ (b : Book) (w : Work) (t : TwoRoots b w)
     (v : Work) (one : Normalized b w v (Ok tt)) (s : Roots) (x : Exchanged v.roots s) where
   abbrev turned : Work
   turned = record { store = v.store; roots = s; frames = v.frames }
@@ -110,8 +103,6 @@ module _ (b : Book) (w : Work) (ok : Working b w.store) (t : TwoRoots b w)
   -- the other root is next
   pub other : Startable b turned
   other = record {
-    down = ok.down;
-    honest = one.honest;
     inside = record {
       fits = omega (arith, x.long, x.top, one.inside.fits);
       low = λ k l. elim (dec_lt k 1) [
@@ -159,7 +150,6 @@ module _ (b : Book) (w : Work) (ok : Working b w.store) (t : TwoRoots b w)
 
     pub both : (y : Result (Unit {0}) NoRoom) → Normalized b turned u y → BothNormal b w u y
     both y n = record {
-      working = working_on b turned u (working_on b w v ok one) n;
       inside = n.inside;
       room = n.room ∙ one.room;
       cells = n.cells ∙ (x.long ∙ one.cells);
@@ -174,10 +164,9 @@ at_places w i j d e h =
     subst (λ (k : ℕ). root_term w 0 ≡ term_in w.store k) e (subst (λ (k : ℕ). term_in w.store k ≡ term_in w.store j) d h)
 
 module _ (b : Book) (w : Work) where
-  pub one_term : Working b w.store → (i j : ℕ) → i ≡ root_in w.roots 0 → j ≡ root_in w.roots 1 →
+  pub one_term : (i j : ℕ) → i ≡ root_in w.roots 0 → j ≡ root_in w.roots 1 →
       term_in w.store i ≡ term_in w.store j → RootsCompared b w w (Ok true)
-  one_term ok i j d e h = record {
-    working = ok;
+  one_term i j d e h = record {
     room = refl;
     cells = refl;
     words = refl;
@@ -191,7 +180,6 @@ module _ (b : Book) (w : Work) where
   module _ (v : Work) (n : BothNormal b w v (Ok tt)) (i j : ℕ) (d : i ≡ root_in v.roots 0) (e : j ≡ root_in v.roots 1) where
     one_form : term_in v.store i ≡ term_in v.store j → RootsCompared b w v (Ok true)
     one_form h = record {
-      working = n.working;
       room = n.room;
       cells = n.cells;
       words = n.words;
@@ -204,7 +192,6 @@ module _ (b : Book) (w : Work) where
 
     two_forms : (term_in v.store i ≡ term_in v.store j → ⊥) → RootsCompared b w v (Ok false)
     two_forms h = record {
-      working = n.working;
       room = n.room;
       cells = n.cells;
       words = n.words;

@@ -17,3 +17,4 @@ pub mod Spaced
 pub mod RunningOn
 pub mod Comparing
 pub mod Pairing
+pub mod Keeping

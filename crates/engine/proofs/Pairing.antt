@@ -23,7 +23,8 @@ use Rattle.store.specs.Transfers.{RowOf, Read}
 use Rattle.engine.specs.declared.types.NoRoom.{NoRoom}
 use Rattle.engine.specs.declared.work.Work.{Work}
 use Rattle.engine.specs.Normal.{root_term}
-use Rattle.engine.specs.Meeting.{Ample, Working, LeftIdle, TwoRoots, Compares}
+use Rattle.engine.specs.Meeting.{Ample, TwoRoots, Compares}
+use Rattle.engine.specs.Reducers.{Idle}
 use Rattle.engine.specs.Pairs.{RowsOf, TwoRows, RowsRead}
 use Rattle.engine.proofs.Honesty.{honest_carried}
 use Rattle.engine.proofs.Comparing.{both_parts}
@@ -149,10 +150,7 @@ module _ (k : Book) (ps : List ℕ) (e : ps ≡ (told k).parts) (w : Work) (z : 
           }
 
 -- what is compared then
-module _ (b : Book) (w : Work) (ok : Working b w.store) (ls rs : List ℕ) (two : TwoRows b ls rs) (v : Work) where
-  pub works : {x : _} → RowsRead b w ls rs v x → Working b v.store
-  works h = record { down = ok.down; honest = h.honest (told b).rules ok.honest }
-
+module _ (b : Book) (w : Work) (ls rs : List ℕ) (two : TwoRows b ls rs) (v : Work) where
   module _ (h : RowsRead b w ls rs v (Ok tt)) where
     pub two_here : TwoRoots b v
     two_here =
@@ -172,9 +170,8 @@ module _ (b : Book) (w : Work) (ok : Working b w.store) (ls rs : List ℕ) (two 
     }
 
     module _ (u : Work) (x : Result Bool NoRoom) where
-      pub idle_on : LeftIdle b v u → LeftIdle b w u
+      pub idle_on : Idle v u → Idle w u
       idle_on i = record {
-        working = i.working;
         room = i.room ∙ h.room;
         cells = i.cells ∙ h.cells;
         words = i.words ∙ ap (λ (fr : _). length fr.words.now) h.frames;
@@ -190,9 +187,8 @@ module _ (b : Book) (w : Work) (ok : Working b w.store) (ls rs : List ℕ) (two 
 
   -- no room to read them
   module _ (e : NoRoom) (h : RowsRead b w ls rs v (Err e)) (s : Roots) (cut : CutTo v.roots 0 s) where
-    pub idle_none : LeftIdle b w (record { store = v.store; roots = s; frames = v.frames })
+    pub idle_none : Idle w (record { store = v.store; roots = s; frames = v.frames })
     idle_none = record {
-      working = works h;
       room = h.room;
       cells = ap length cut.cells ∙ h.cells;
       words = ap (λ (fr : _). length fr.words.now) h.frames;

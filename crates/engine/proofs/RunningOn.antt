@@ -3,6 +3,7 @@ use Rattle.std.proofs.Common.{◌≡◌, ℕ, ◌+◌, ◌-◌, ◌<◌, List, [
 use native.Mathlib.Decide.{ℕ_discrete}
 use Rattle.rewriting.specs.Terms.{Term}
 use Rattle.rewriting.specs.Rules.{Eq, Steps, stay, Done}
+use Rattle.rewriting.specs.Order.{rank, AllDown}
 use Rattle.rewriting.specs.Different.{different, listed}
 use Rattle.rewriting.specs.Machine.{State, state, eval, back, whole, move, Valid}
 use Rattle.rewriting.specs.Machine.{Frame as ModelFrame}
@@ -23,7 +24,7 @@ use Rattle.engine.specs.declared.types.Frames.{Frames}
 use Rattle.engine.specs.declared.types.Focus.{Focus}
 use Rattle.engine.specs.declared.types.Focus.TheVariants.{Eval, Back}
 use Rattle.engine.specs.Frames.{Emptied}
-use Rattle.engine.specs.Running.{Framed, frames_of, frames_in, state_in, Asks, AskedFor}
+use Rattle.engine.specs.Running.{Honest, Framed, frames_of, frames_in, state_in, Asks, AskedFor}
 use Rattle.engine.specs.Turning.{Goes, Ready, KeptBelow, TurnedTo}
 use Rattle.engine.specs.Spacing.{Wanting, few_slots, few_words, few_cells, Halted, WithSpace, Went, Ended}
 use Rattle.engine.specs.declared.types.NoRoom.{NoRoom}
@@ -127,7 +128,8 @@ module _ (b : Book) (low : ℕ) where
         )
 
 -- from a start to an end
-module _ (b : Book) (w0 : Work) (can : Startable b w0) (q : Roots) (cut : CutTo w0.roots (w0.roots.top - 1) q)
+module _ (b : Book) (w0 : Work) (down : AllDown (rank (told b).ranks) (told b).rules) (honest : Honest (told b).rules w0.store)
+    (can : Startable b w0) (q : Roots) (cut : CutTo w0.roots (w0.roots.top - 1) q)
     (fr : Frames) (none : Emptied w0.frames fr) (p : Place) (at : p.0 ≡ root_in w0.roots (w0.roots.top - 1)) where
   abbrev st : Store
   st = w0.store
@@ -161,9 +163,9 @@ module _ (b : Book) (w0 : Work) (can : Startable b w0) (q : Roots) (cut : CutTo 
 
   pub first_ready : Ready b low (work st q fr) (Eval p)
   first_ready = record {
-    down = can.down;
+    down = down;
     running = record {
-      honest = can.honest;
+      honest = honest;
       inside = record {
         fits = omega (arith, ap length cut.cells, cut.top, can.inside.fits);
         low = λ k l. omega (arith, root_same k, can.inside.low k (omega (arith, cut.top)));
@@ -193,7 +195,6 @@ module _ (b : Book) (w0 : Work) (can : Startable b w0) (q : Roots) (cut : CutTo 
         let is : held z.store o low ≡ term_in z.store x.0 = ap (term_in z.store) on.is in
         record {
           sound = sound_in z.store;
-          honest = d.ready.running.honest;
           inside = record {
             fits = omega (arith, on.long, on.top, k.cells, ap length cut.cells, can.inside.fits, can.some);
             low = λ j l. inside_low j (omega (arith, on.top)) (ℕ_discrete j low);
@@ -225,7 +226,6 @@ module _ (b : Book) (w0 : Work) (can : Startable b w0) (q : Roots) (cut : CutTo 
         let lack = wanting_kept low first v u u0.kept d.wanting in
         record {
           sound = d.sound;
-          honest = d.honest;
           inside = record {
             fits = omega (arith, ap length c.cells, c.top, d.inside.fits, d.enough);
             low = λ j l. omega (arith, same j, d.inside.low j (omega (arith, c.top, d.enough)));

@@ -10,3 +10,4 @@ pub mod Normal
 pub mod Meeting
 pub mod Working
 pub mod Pairs
+pub mod Reducers

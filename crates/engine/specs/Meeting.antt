@@ -2,9 +2,7 @@
 use Rattle.std.specs.Prelude.{◌≡◌, ℕ, ◌+◌, ◌-◌, ◌*◌, ◌/◌, ◌<◌, ◌≤◌, Bool, true, false, ◌⊎◌, Ok, Err, Result, [], ◌∷◌, length, ◌≢◌}
 use Rattle.rewriting.specs.Terms.{Term, Fits}
 use Rattle.rewriting.specs.Rules.{Steps, Done}
-use Rattle.rewriting.specs.Order.{rank, AllDown}
 use Rattle.rewriting.specs.Different.{different}
-use Rattle.store.specs.declared.types.Store.{Store}
 use Rattle.store.specs.declared.types.Roots.{Roots}
 use Rattle.store.specs.Stacks.{root_in}
 use Rattle.store.specs.Stores.{Inside}
@@ -12,7 +10,6 @@ use Rattle.books.specs.declared.row.Book.{Book}
 use Rattle.books.specs.Books.{told}
 use Rattle.engine.specs.declared.types.NoRoom.{NoRoom}
 use Rattle.engine.specs.declared.work.Work.{Work}
-use Rattle.engine.specs.Running.{Honest}
 use Rattle.engine.specs.Normal.{root_term}
 
 -- how many different parts a term may have, by the number of work words
@@ -24,19 +21,6 @@ pub record Ample (n : ℕ) (w : Work) : Type 0 where
   pub slots : 2 * n + 640 ≤ w.store.room
   pub cells : 6 * n + 256 ≤ length w.roots.cells.now
   pub words : 4 * n + 16 ≤ length w.frames.words.now
-
--- the rules go down, and the store's flags and notes are right
-pub record Working (b : Book) (st : Store) : Type 0 where
-  pub down : AllDown (rank (told b).ranks) (told b).rules
-  pub honest : Honest (told b).rules st
-
--- that stays so; no words are lost, and no roots are left
-pub record LeftIdle (b : Book) (w v : Work) : Type 0 where
-  pub working : Working b v.store
-  pub room : v.store.room ≡ w.store.room
-  pub cells : length v.roots.cells.now ≡ length w.roots.cells.now
-  pub words : length v.frames.words.now ≡ length w.frames.words.now
-  pub none : v.roots.top ≡ 0
 
 -- there are two roots, whose terms are over the signature
 pub record TwoRoots (b : Book) (w : Work) : Type 0 where
@@ -68,7 +52,6 @@ BothOrRoom b w v (Err e) = (n : ℕ) → Ample n w → Compares b n (root_term w
 
 -- that, with no words lost
 pub record BothNormal (b : Book) (w v : Work) (x : Result (Unit {0}) NoRoom) : Type 0 where
-  pub working : Working b v.store
   pub inside : Inside v.store v.roots
   pub room : v.store.room ≡ w.store.room
   pub cells : length v.roots.cells.now ≡ length w.roots.cells.now
@@ -77,7 +60,6 @@ pub record BothNormal (b : Book) (w v : Work) (x : Result (Unit {0}) NoRoom) : T
 
 -- two terms are compared, and no words are lost
 pub record RootsCompared (b : Book) (w v : Work) (x : Result Bool NoRoom) : Type 0 where
-  pub working : Working b v.store
   pub room : v.store.room ≡ w.store.room
   pub cells : length v.roots.cells.now ≡ length w.roots.cells.now
   pub words : length v.frames.words.now ≡ length w.frames.words.now

@@ -2,23 +2,19 @@
 use Rattle.std.specs.Prelude.{◌≡◌, ℕ, ◌-◌, ◌<◌, Ok, Err, Result, length}
 use Rattle.rewriting.specs.Terms.{Term, Fits}
 use Rattle.rewriting.specs.Rules.{Steps, Done}
-use Rattle.rewriting.specs.Order.{rank, AllDown}
 use Rattle.store.specs.Stores.{Sound, held, Inside}
 use Rattle.books.specs.declared.row.Book.{Book}
 use Rattle.books.specs.Books.{told}
 use Rattle.engine.specs.declared.types.NoRoom.{NoRoom}
 use Rattle.engine.specs.declared.work.Work.{Work}
-use Rattle.engine.specs.Running.{Honest}
 use Rattle.engine.specs.Spacing.{Wanting}
 
 -- the term of root i
 abbrev pub root_term : Work → ℕ → Term
 root_term w i = held w.store w.roots i
 
--- the rules go down, and the uppermost root's term is over the signature
+-- the uppermost root's term is over the signature
 pub record Startable (b : Book) (w : Work) : Type 0 where
-  pub down : AllDown (rank (told b).ranks) (told b).rules
-  pub honest : Honest (told b).rules w.store
   pub inside : Inside w.store w.roots
   pub some : 0 < w.roots.top
   pub fits : Fits (told b).parts (root_term w (w.roots.top - 1))
@@ -35,7 +31,6 @@ NormalOrWanting b w v (Err _) = (v.roots.top ≡ w.roots.top - 1)
 -- that, and the roots below are kept
 pub record Normalized (b : Book) (w v : Work) (x : Result (Unit {0}) NoRoom) : Type 0 where
   pub sound : Sound v.store
-  pub honest : Honest (told b).rules v.store
   pub inside : Inside v.store v.roots
   pub room : v.store.room ≡ w.store.room
   pub cells : length v.roots.cells.now ≡ length w.roots.cells.now

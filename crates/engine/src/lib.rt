@@ -5,12 +5,15 @@ mod bindings;
 mod frames;
 pub mod instance;
 pub mod matching;
-pub mod meeting;
-pub mod normal;
+mod meeting;
+mod normal;
 mod places;
-pub mod rows;
+mod reducer;
+mod rows;
 pub mod rules;
 mod space;
 mod turns;
 pub mod types;
 pub mod work;
+
+pub use reducer::Reducer;

@@ -3,7 +3,9 @@ ghost use Rattle.std.specs.Prelude.{ℕ};
 ghost use Rattle.engine.specs.Turning.{Ready, CanTurn};
 ghost use Rattle.engine.specs.Spacing.{Stepped};
 ghost use Rattle.engine.specs.Normal.{Normalized, Startable};
+ghost use Rattle.engine.specs.Reducers.{Lent};
 
+use crate::reducer::Reducer;
 use crate::types::{Focus, NoRoom};
 use crate::work::Work;
 use books::Book;
@@ -22,26 +24,30 @@ impl Work<'_> {
             Focus::Back(v) => Ok(ControlFlow::Continue(self.back(book, v))),
         }
     }
+}
 
+impl Reducer<'_, '_, '_> {
     // Puts the normal form of the uppermost root's term in its place; or takes this root away, for want of space.
-    pub fn normalize(&mut self, book: &Book) -> Result<(), NoRoom>
-        requires { Startable book.now self.old }
-        ensures { Normalized book.now self.old self.new result }
+    pub fn normalize(&mut self) -> Result<(), NoRoom>
+        requires { Startable self.old.rules.now.book self.old.work.now }
+        ensures lent { Lent self.old self.new }
+        ensures normal { Normalized self.old.rules.now.book self.old.work.now self.new.work.now result }
     {
-        let low = self.roots.top - 1;
-        let mut focus = Focus::Eval(self.roots.place(low));
-        self.roots.truncate(low);
-        self.frames.clear();
+        let book = &self.rules.book;
+        let low = self.work.roots.top - 1;
+        let mut focus = Focus::Eval(self.work.roots.place(low));
+        self.work.roots.truncate(low);
+        self.work.frames.clear();
         loop {
-            match self.step(book, focus) {
+            match self.work.step(book, focus) {
                 Ok(ControlFlow::Continue(next)) => focus = next,
                 Ok(ControlFlow::Break(v)) => {
-                    self.roots.stack(low, v);
+                    self.work.roots.stack(low, v);
                     return Ok(());
                 }
                 // Stays without `?`: the root is taken away before the refusal is handed on.
                 Err(e) => {
-                    self.roots.truncate(low);
+                    self.work.roots.truncate(low);
                     return Err(e);
                 }
             }

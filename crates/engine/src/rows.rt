@@ -1,9 +1,10 @@
 // Two rows whose terms are compared by a book's rules.
 ghost use Rattle.std.specs.Prelude.{◌≡◌};
 ghost use Rattle.rewriting.specs.Answers.{Tells};
-ghost use Rattle.engine.specs.Meeting.{Working, LeftIdle};
 ghost use Rattle.engine.specs.Pairs.{TwoRows, RowsRead, RowsCompared};
+ghost use Rattle.engine.specs.Reducers.{LeftIdle};
 
+use crate::reducer::Reducer;
 use crate::types::NoRoom;
 use crate::work::Work;
 use books::{Book, is_term};
@@ -32,26 +33,24 @@ impl Work<'_> {
         self.store.read_row(&mut self.roots, book.parts(), right)?;
         Ok(())
     }
+}
 
+impl Reducer<'_, '_, '_> {
     // Whether the terms of two rows have one normal form; none if the words are not such rows.
-    pub fn compare_rows(
-        &mut self,
-        book: &Book,
-        left: &[u32],
-        right: &[u32],
-    ) -> Option<Result<bool, NoRoom>>
-        requires { (Working book.now self.old.store) × (self.old.roots.top ≡ 0) }
-        ensures idle { LeftIdle book.now self.old self.new }
-        ensures result { RowsCompared book.now self.old left.now right.now result }
+    pub fn compare_rows(&mut self, left: &[u32], right: &[u32]) -> Option<Result<bool, NoRoom>>
+        requires { self.old.work.now.roots.top ≡ 0 }
+        ensures idle { LeftIdle self.old self.new }
+        ensures result { RowsCompared self.old.rules.now.book self.old.work.now left.now right.now result }
     {
+        let book = &self.rules.book;
         if !are_terms(book, left, right) {
             return None;
         }
         // Stays without `?`: the roots are taken away before the refusal is handed on.
-        if let Err(e) = self.read_rows(book, left, right) {
-            self.roots.truncate(0);
+        if let Err(e) = self.work.read_rows(book, left, right) {
+            self.work.roots.truncate(0);
             return Some(Err(e));
         }
-        Some(self.compare(book))
+        Some(self.compare())
     }
 }

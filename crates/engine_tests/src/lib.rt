@@ -4,10 +4,11 @@
 #[cfg(test)]
 mod tests {
     use books::Book;
+    use engine::Reducer;
     use engine::types::NoRoom;
     use engine::work::share_out;
     use notation::parse;
-    use order::first_up;
+    use order::Terminating;
     use std::alloc::{AllocError, Global};
     use std::test::Fail;
 
@@ -49,11 +50,13 @@ rules
         right: &[u32],
         work: &mut [u32],
     ) -> Option<Result<bool, NoRoom>> {
-        let book = Book::read(words)?;
-        if first_up(&book).is_some() {
-            return None;
-        }
-        share_out(work)?.compare_rows(&book, left, right)
+        let rules = Terminating::new(Book::read(words)?).ok()?;
+        let mut work = share_out(work)?;
+        let mut reducer = Reducer {
+            rules: &rules,
+            work: &mut work,
+        };
+        reducer.compare_rows(left, right)
     }
 
     // n nested signs over a term.

@@ -7,3 +7,4 @@ pub mod Promised
 pub mod Excluding
 pub mod Stable
 pub mod Deciding
+pub mod Serving

@@ -17,9 +17,10 @@ use Rattle.equal.specs.declared.types.Judged.{Judged}
 use Rattle.equal.specs.declared.types.Judged.TheVariants.{Settles, Up, Apart, Lost, Stray, NoBook, Room, Few}
 use Rattle.equal.specs.declared.types.Told.{Told}
 use Rattle.equal.specs.declared.types.Told.TheVariants.{Same, Different, Unsettled, NoTerm, Full, Unjudged, Small}
-use Rattle.engine.specs.Meeting.{Ample, LeftIdle, most_parts}
+use Rattle.engine.specs.Meeting.{Ample, most_parts}
 use Rattle.equal.specs.Promises.{JudgedSays, TooFew, Large, Theorems, JudgedPost, ToldSays, Grows, ToldPost}
 use Rattle.equal.specs.Judging.{Growing, RoomFor, JudgedIn, not_settled, RowsSay}
+use Rattle.equal.specs.Serving.{StillServes}
 use Rattle.equal.proofs.Excluding.{excludes}
 
 pub theorems : Theorems
@@ -48,8 +49,8 @@ module _ {s h : List ℕ} {w : ℕ} {k : Work} (fresh : Fresh w k) (enough : Too
     pub settles_said : JudgedSays s h Settles
     settles_said = (found (most_parts w) room_for).says
 
-    pub settled_idle : (b : Book) → b.words.now ≡ s → LeftIdle b k l
-    settled_idle b same = (found (most_parts w) room_for).idle refl b (sound_book_in b) same
+    pub settled_serves : StillServes s k l
+    settled_serves = (found (most_parts w) room_for).serves refl
 
 -- a term of more different parts than w words allow has too many letters and signs
 large : (b : ToldBook) (w : ℕ) → 16384 ≤ w → Growing b (most_parts w) → Large b w

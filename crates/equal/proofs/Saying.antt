@@ -5,20 +5,18 @@ use Rattle.rewriting.specs.Rules.{Eq, Meet}
 use Rattle.rewriting.specs.Order.{rank, Greater, AllDown}
 use Rattle.rewriting.specs.Books.{Book as Told}
 use Rattle.books.specs.declared.row.Book.{Book}
-use Rattle.books.specs.Books.{told, SoundBook, sound_book_in, blank, rule_in, equation_in}
+use Rattle.books.specs.Books.{told, sound_book_in, blank, rule_in, equation_in}
 use Rattle.books.specs.Rows.{Reads}
-use Rattle.books.specs.Reading.{book_of}
 use Rattle.books.proofs.Elements.{nth_is}
 use Rattle.books.proofs.Bookish.{is_rule, is_equation}
 use Rattle.books.proofs.Unique.{the_book}
 use Rattle.order.specs.Downward.{FirstUp}
 use Rattle.engine.specs.declared.types.NoRoom.{NoRoom}
 use Rattle.engine.specs.declared.work.Work.{Work}
-use Rattle.engine.specs.Running.{Honest}
-use Rattle.engine.specs.Meeting.{LeftIdle}
 use Rattle.equal.specs.declared.types.Judged.{Judged}
 use Rattle.equal.specs.declared.types.Judged.TheVariants.{Settles, Up, Apart, Lost, Stray, NoBook, Room, Few}
 use Rattle.equal.specs.Promises.{JudgedSays}
+use Rattle.equal.specs.Serving.{StillServes}
 use Rattle.equal.specs.Judging.{AmpleWith, RulesSay, Growing, RoomFor, JudgedIn, or_room}
 
 module _ (k : Book) (h : List ℕ) where
@@ -61,28 +59,15 @@ module _ (k : Book) (h : List ℕ) where
 
   module _ (n : ℕ) (w v : Work) where
     up_here : (i : ℕ) → FirstUp k (Some i) → JudgedIn k.words.now h n w v (Up i)
-    up_here i up = record { says = says_up i up; enough = λ e. cc; room = λ e. cc; idle = λ e. cc }
+    up_here i up = record { says = says_up i up; enough = λ e. cc; room = λ e. cc; serves = λ e. cc }
 
-    -- another value for the same book
-    other_idle : LeftIdle k w v → (j : Book) → SoundBook j → j.words.now ≡ k.words.now → LeftIdle j w v
-    other_idle idle j good e = record {
-      working = record {
-        down = subst (λ (ws : List ℕ). AllDown (rank (book_of ws).ranks) (book_of ws).rules) (sym e) idle.working.down;
-        honest = subst (λ (ws : List ℕ). Honest (book_of ws).rules v.store) (sym e) idle.working.honest;
-      };
-      room = idle.room;
-      cells = idle.cells;
-      words = idle.words;
-      none = idle.none;
-    }
-
-    down_here : AllDown (rank (told k).ranks) (told k).rules → LeftIdle k w v → (a : Judged) → RulesSay k h n a →
+    down_here : AllDown (rank (told k).ranks) (told k).rules → StillServes k.words.now w v → (a : Judged) → RulesSay k h n a →
         JudgedIn k.words.now h n w v a
-    down_here down idle a said = record {
+    down_here down serves a said = record {
       says = says n down a said;
       enough = λ e. subst (RulesSay k h n) e said;
       room = λ e. growing n (subst (RulesSay k h n) e said);
-      idle = λ e. other_idle idle;
+      serves = λ e. serves;
     }
 
 ample_with : (k : Book) (h : List ℕ) (n : ℕ) (w : Work) → RoomFor k.words.now h n w →
@@ -103,9 +88,9 @@ module _ (k : Book) {s : List ℕ} (same : k.words.now ≡ s) (h : List ℕ) (n 
   judged_up {w} {v} {i} up = subst (λ (ws : List ℕ). JudgedIn ws h n w v (Up i)) same (up_here k h n w v i up)
 
   pub judged_down : {w v : Work} {a : Judged} (x : Result Judged NoRoom) → AllDown (rank (told k).ranks) (told k).rules →
-      LeftIdle k w v → ((n : ℕ) → AmpleWith k (length h) n w → RulesSay k h n (or_room x)) → RoomFor s h n w →
+      StillServes k.words.now w v → ((n : ℕ) → AmpleWith k (length h) n w → RulesSay k h n (or_room x)) → RoomFor s h n w →
       a ≡ result_unwrap_or x Room → JudgedIn s h n w v a
-  judged_down {w} {v} {a} x down idle said room e =
+  judged_down {w} {v} {a} x down serves said room e =
       let ample = ample_with k h n w (subst (λ (ws : List ℕ). RoomFor ws h n w) (sym same) room) in
       subst (λ (ws : List ℕ). JudgedIn ws h n w v a) same
-      (down_here k h n w v down idle a (subst (RulesSay k h n) (sym (e ∙ room_or x)) (said n ample)))
+      (down_here k h n w v down serves a (subst (RulesSay k h n) (sym (e ∙ room_or x)) (said n ample)))

@@ -1,6 +1,6 @@
 -- The sides of equations as rows, and a loop over the equations that looks whether they meet.
 use Rattle.std.proofs.Common.{◌≡◌, ℕ, ◌+◌, ◌*◌, ◌<◌, ◌≤◌, Bool, true, false, List, length, get_or, is_some as option_is_some, Some, None}
-use Rattle.std.proofs.Common.{Option as Maybe, Ok, Result, sym, refl, ◌∙◌, subst, arith}
+use Rattle.std.proofs.Common.{Option as Maybe, Ok, Result, sym, refl, ap, subst, arith}
 use native.Mathlib.Decide.{ℕ_discrete}
 use Rattle.rewriting.specs.Terms.{SmallLetter, Fits}
 use Rattle.rewriting.specs.Rules.{Eq, Meet}
@@ -12,9 +12,13 @@ use Rattle.books.specs.Books.{told, sound_book_in, blank, equation_in, EquationA
 use Rattle.books.specs.Rows.{row}
 use Rattle.books.proofs.Elements.{nth_below, nth_is}
 use Rattle.books.proofs.Bookish.{equation_sides, equation_at}
+use Rattle.order.specs.declared.terminating.Terminating.{Terminating}
 use Rattle.engine.specs.declared.types.NoRoom.{NoRoom}
 use Rattle.engine.specs.declared.work.Work.{Work}
-use Rattle.engine.specs.Meeting.{Ample, LeftIdle, Compares}
+use Rattle.engine.specs.Meeting.{Compares}
+use Rattle.engine.specs.declared.reducer.Reducer.{Reducer}
+use Rattle.engine.specs.Reducers.{LeftIdle}
+use Rattle.engine.proofs.Keeping.{ample_still}
 use Rattle.engine.specs.Pairs.{RowsOf, RowsCompared}
 use Rattle.equal.specs.Judging.{AmpleFor, KeptBefore, EquationsSay}
 
@@ -52,30 +56,29 @@ module _ (b : Book) (i : ℕ) (low : i < length (told b).eqs) where
         side_rows n e.ample (omega (arith, stands.left.long, stands.left.within, e.long))
         (omega (arith, stands.right.long, stands.right.within, e.long))
 
-module _ {b : Book} {w v : Work} (idle : LeftIdle b w v) where
-  -- and what is done next
-  pub idle_on : {u : Work} → LeftIdle b v u → LeftIdle b w u
-  idle_on h = record {
-    working = h.working;
-    room = h.room ∙ idle.room;
-    cells = h.cells ∙ idle.cells;
-    words = h.words ∙ idle.words;
-    none = h.none;
-  }
-
-  pub ample_kept : {n : ℕ} → Ample n w → Ample n v
-  ample_kept a = record {
-    slots = omega (arith, a.slots, idle.room);
-    cells = omega (arith, a.cells, idle.cells);
-    words = omega (arith, a.words, idle.words);
-  }
-
-  pub ample_on : {n : ℕ} → AmpleFor b n w → AmpleFor b n v
+-- after some work the rules are the same, and there is as much room
+module _ {r s : Reducer} (d : LeftIdle r s) where
+  pub ample_on : {n : ℕ} → AmpleFor r.rules.now.book n r.work.now → AmpleFor s.rules.now.book n s.work.now
   ample_on e = record {
-    ample = ample_kept e.ample;
-    slots = omega (arith, e.slots, idle.room);
-    long = e.long;
+    ample = ample_still d.idle e.ample;
+    slots = omega (arith, e.slots, d.idle.room);
+    long = omega (arith, e.long, ap (λ (t : Terminating). length t.book.words.now) d.lent.rules);
   }
+
+  pub equation_still : (i : ℕ) → i < length (told r.rules.now.book).eqs → i < length (told s.rules.now.book).eqs
+  equation_still i l = subst (λ (t : Terminating). i < length (told t.book).eqs) (sym d.lent.rules) l
+
+  pub one_end_still : OneEnd (told r.rules.now.book) → OneEnd (told s.rules.now.book)
+  one_end_still one = subst (λ (t : Terminating). OneEnd (told t.book)) (sym d.lent.rules) one
+
+  pub compares_still : (n i : ℕ) (x : Result Bool NoRoom) →
+      Compares s.rules.now.book n (equation_in s.rules.now.book i).left (equation_in s.rules.now.book i).right x →
+      Compares r.rules.now.book n (equation_in r.rules.now.book i).left (equation_in r.rules.now.book i).right x
+  compares_still n i x h =
+      subst (λ (t : Terminating). Compares t.book n (equation_in t.book i).left (equation_in t.book i).right x) d.lent.rules h
+
+  pub equations_still : (n : ℕ) (x : Result (Maybe ℕ) NoRoom) → EquationsSay s.rules.now.book n x → EquationsSay r.rules.now.book n x
+  equations_still n x h = subst (λ (t : Terminating). EquationsSay t.book n x) d.lent.rules h
 
 -- one more equation
 pub kept_more : (b : Book) (n i : ℕ) → KeptBefore b i →

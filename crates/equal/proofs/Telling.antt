@@ -15,7 +15,7 @@ use Rattle.books.specs.Rows.{Of}
 use Rattle.books.proofs.Glueing.{row_length}
 use Rattle.engine.specs.declared.types.NoRoom.{NoRoom}
 use Rattle.engine.specs.declared.work.Work.{Work}
-use Rattle.engine.specs.Meeting.{Ample, Working, Compares}
+use Rattle.engine.specs.Meeting.{Ample, Compares}
 use Rattle.engine.specs.Pairs.{RowsCompared}
 use Rattle.equal.specs.declared.types.Told.{Told as Answer}
 use Rattle.equal.specs.declared.types.Told.TheVariants.{Same, Different, NoTerm, Full}
@@ -29,7 +29,7 @@ one_normal b fine down settled t u v w ft fu hv dv hw dw (m, tm, um) =
     let n = settled.comes m (steps_keep b fine down tm ft) in
     settled.one t v n.0 ft hv dv (trans tm n.1) n.2 ∙ sym (settled.one u w n.0 fu hw dw (trans um n.1) n.2)
 
-module _ (b : Book) (wk : Work) (working : Working b wk.store) (settled : IsSettled (told b))
+module _ (b : Book) (wk : Work) (down : AllDown (rank (told b).ranks) (told b).rules) (settled : IsSettled (told b))
     (n : ℕ) (ample : Ample n wk) (x y : List ℕ) (short-x : length x ≤ n) (short-y : length y ≤ n) where
   fits : (z : List ℕ) (t : Term) → Of (told b).parts z t → Fits (told b).parts t
   fits z t o = over_fits (told b).parts SmallLetter t o.fits
@@ -61,7 +61,7 @@ module _ (b : Book) (wk : Work) (working : Working b wk.store) (settled : IsSett
         u,
         k.left,
         k.right,
-        λ e. differ (one_normal (told b) (sound_book_in b).reads.fine working.down settled t u v w ft fu
+        λ e. differ (one_normal (told b) (sound_book_in b).reads.fine down settled t u v w ft fu
             hv dv hw dw ((settled.equal t u ft fu).0 e)),
       )
 

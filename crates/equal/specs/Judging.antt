@@ -8,11 +8,11 @@ use Rattle.rewriting.specs.Books.{OneEnd, NoLess}
 use Rattle.rewriting.specs.Books.{Book as Told}
 use Rattle.store.specs.Stores.{Sound}
 use Rattle.books.specs.declared.row.Book.{Book}
-use Rattle.books.specs.Books.{told, SoundBook, equation_in}
+use Rattle.books.specs.Books.{told, equation_in}
 use Rattle.engine.specs.declared.types.NoRoom.{NoRoom}
 use Rattle.engine.specs.declared.work.Work.{Work}
 use Rattle.engine.specs.Running.{Honest}
-use Rattle.engine.specs.Meeting.{Ample, LeftIdle}
+use Rattle.engine.specs.Meeting.{Ample}
 use Rattle.books.specs.Rows.{Reads, Of}
 use Rattle.ways.specs.Showing.{Shown}
 use Rattle.equal.specs.declared.types.Judged.{Judged}
@@ -20,6 +20,7 @@ use Rattle.equal.specs.declared.types.Judged.TheVariants as judged
 use Rattle.equal.specs.declared.types.Told.{Told as Answer}
 use Rattle.equal.specs.declared.types.Told.TheVariants as answer
 use Rattle.equal.specs.Promises.{JudgedSays, Starting}
+use Rattle.equal.specs.Serving.{StillServes}
 
 -- slots, cells and words enough for two terms of n different parts at once, and the book has no more words
 pub record AmpleFor (b : Book) (n : ℕ) (w : Work) : Type 0 where
@@ -90,7 +91,7 @@ pub record JudgedIn (s h : List ℕ) (n : ℕ) (w v : Work) (a : Judged) : Type 
   pub says : JudgedSays s h a
   pub enough : a ≡ judged.Few → ⊥
   pub room : a ≡ judged.Room → (b : Told) → Reads s b → Growing b n
-  pub idle : a ≡ judged.Settles → (k : Book) → SoundBook k → k.words.now ≡ s → LeftIdle k w v
+  pub serves : a ≡ judged.Settles → StillServes s w v
 
 -- the answer by what was found of two rows
 abbrev pub answer_of : Maybe (Result Bool NoRoom) → Answer

@@ -5,8 +5,9 @@ ghost use Rattle.equal.specs.Judging.{JudgedIn, OpenStore, RoomFor};
 use crate::rules::judge_rules;
 use crate::types::Judged;
 use books::Book;
+use engine::Reducer;
 use engine::work::Work;
-use order::first_up;
+use order::Terminating;
 
 // Whether a book settles its equations, by its words and those of its ways; or the first thing that fails. If it settles, the store can
 // serve for comparing its terms.
@@ -18,8 +19,13 @@ pub fn judge_in(book: &[u32], ways: &[u32], work: &mut Work) -> Judged
     let Some(book) = Book::read(book) else {
         return Judged::NoBook;
     };
-    if let Some(i) = first_up(&book) {
-        return Judged::Up(i);
-    }
-    judge_rules(&book, ways, work).unwrap_or(Judged::Room)
+    let rules = match Terminating::new(book) {
+        Ok(rules) => rules,
+        Err(i) => return Judged::Up(i),
+    };
+    let mut reducer = Reducer {
+        rules: &rules,
+        work,
+    };
+    judge_rules(&mut reducer, ways).unwrap_or(Judged::Room)
 }

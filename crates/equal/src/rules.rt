@@ -1,13 +1,12 @@
 // Judging a book whose rules go down.
 ghost use Rattle.std.specs.Prelude.{◌≡◌, ℕ, length};
-ghost use Rattle.engine.specs.Meeting.{LeftIdle, Working};
+ghost use Rattle.engine.specs.Reducers.{LeftIdle};
 ghost use Rattle.equal.specs.Judging.{AmpleWith, RulesSay, by_ways, or_room};
 
 use crate::equations::first_lost;
 use crate::types::Judged;
-use books::Book;
+use engine::Reducer;
 use engine::types::NoRoom;
-use engine::work::Work;
 use overlaps::ends::one_end;
 use ways::shown;
 
@@ -23,20 +22,23 @@ fn by_ways(shown: bool) -> Judged
 }
 
 // What is to be said of a book whose rules go down: the first that fails of one end, the equations and the ways.
-pub fn judge_rules(book: &Book, ways: &[u32], work: &mut Work) -> Result<Judged, NoRoom>
-    requires working { (Working book.now work.old.store) × (work.old.roots.top ≡ 0) }
-    requires room { (n : ℕ) × AmpleWith book.now (length ways.now) n work.old }
-    ensures idle { LeftIdle book.now work.old work.new }
-    ensures result { (n : ℕ) → AmpleWith book.now (length ways.now) n work.old → RulesSay book.now ways.now n (or_room result) }
+pub fn judge_rules(reducer: &mut Reducer, ways: &[u32]) -> Result<Judged, NoRoom>
+    requires none { reducer.old.work.now.roots.top ≡ 0 }
+    requires room { (n : ℕ) × AmpleWith reducer.old.rules.now.book (length ways.now) n reducer.old.work.now }
+    ensures idle { LeftIdle reducer.old reducer.new }
+    ensures result { (n : ℕ) → AmpleWith reducer.old.rules.now.book (length ways.now) n reducer.old.work.now →
+        RulesSay reducer.old.rules.now.book ways.now n (or_room result) }
 {
-    let one = one_end(book, work)?;
+    let one = one_end(reducer)?;
     if !one {
         return Ok(Judged::Apart);
     }
-    let lost = first_lost(book, work)?;
+    let lost = first_lost(reducer)?;
     match lost {
         Some(i) => Ok(Judged::Lost(i)),
         None => {
+            let book = &reducer.rules.book;
+            let work = &mut *reducer.work;
             let shown = shown(book, ways, &mut work.store, &mut work.roots);
             Ok(by_ways(shown))
         }

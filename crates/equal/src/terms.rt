@@ -3,13 +3,13 @@
 ghost use Rattle.std.specs.Prelude.{◌≡◌, ℕ, ◌≤◌, length};
 ghost use Rattle.rewriting.specs.Theorems.{IsSettled};
 ghost use Rattle.books.specs.Books.{told};
-ghost use Rattle.engine.specs.Meeting.{Ample, LeftIdle, Working};
+ghost use Rattle.engine.specs.Meeting.{Ample};
+ghost use Rattle.engine.specs.Reducers.{LeftIdle};
 ghost use Rattle.equal.specs.Judging.{RowsSay, answer_of, not_settled};
 
 use crate::types::{Judged, Told};
-use books::Book;
+use engine::Reducer;
 use engine::types::NoRoom;
-use engine::work::Work;
 
 // The answer by what was found of two rows.
 fn answer(found: Option<Result<bool, NoRoom>>) -> Told
@@ -34,11 +34,12 @@ pub fn not_settled(judged: Judged) -> Told
 }
 
 // What is to be said of two rows by a book that settles its equations.
-pub fn compare_terms(book: &Book, one: &[u32], other: &[u32], work: &mut Work) -> Told
-    requires { (Working book.now work.old.store) × ((work.old.roots.top ≡ 0) × (IsSettled (told book.now))) }
-    ensures idle { LeftIdle book.now work.old work.new }
-    ensures result { (n : ℕ) → Ample n work.old → length one.now ≤ n → length other.now ≤ n →
-        RowsSay book.now n one.now other.now result }
+pub fn compare_terms(reducer: &mut Reducer, one: &[u32], other: &[u32]) -> Told
+    requires none { reducer.old.work.now.roots.top ≡ 0 }
+    requires settled { IsSettled (told reducer.old.rules.now.book) }
+    ensures idle { LeftIdle reducer.old reducer.new }
+    ensures result { (n : ℕ) → Ample n reducer.old.work.now → length one.now ≤ n → length other.now ≤ n →
+        RowsSay reducer.old.rules.now.book n one.now other.now result }
 {
-    answer(work.compare_rows(book, one, other))
+    answer(reducer.compare_rows(one, other))
 }

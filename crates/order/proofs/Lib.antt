@@ -5,3 +5,4 @@ pub mod Comparing
 pub mod Deciding
 pub mod Tables
 pub mod Rules
+pub mod Descent

@@ -2,3 +2,4 @@
 pub mod Tables
 pub mod Comparing
 pub mod Downward
+pub mod Terminating

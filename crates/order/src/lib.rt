@@ -4,6 +4,8 @@
 mod compare;
 mod down;
 mod table;
+mod terminating;
 mod terms;
 
 pub use down::{first_up, goes_down};
+pub use terminating::Terminating;

@@ -1,28 +1,28 @@
 -- Going through the overlaps: what stays true on the way.
-use Rattle.std.proofs.Common.{◌≡◌, ℕ, Bool, true, ◌∙◌, arith}
+use Rattle.std.proofs.Common.{◌≡◌, ℕ, ◌<◌, Bool, true, Result, length, sym, subst}
+use Rattle.rewriting.specs.Terms.{size}
 use Rattle.books.specs.declared.row.Book.{Book}
-use Rattle.engine.specs.declared.work.Work.{Work}
-use Rattle.engine.specs.Meeting.{Ample, LeftIdle}
+use Rattle.books.specs.Books.{told, rule_in}
+use Rattle.order.specs.declared.terminating.Terminating.{Terminating}
+use Rattle.engine.specs.declared.reducer.Reducer.{Reducer}
+use Rattle.engine.specs.declared.types.NoRoom.{NoRoom}
+use Rattle.engine.specs.Reducers.{LeftIdle}
+use Rattle.overlaps.specs.Verdict.{OverlapSays}
 use Rattle.overlaps.proofs.Judging.{JoinedTo}
 
-pub record Going (b : Book) (w : Work) (i j k : ℕ) (v : Work) (found : Bool) : Type 0 where
-  pub idle : LeftIdle b w v
+pub record Going (b : Book) (r : Reducer) (i j k : ℕ) (s : Reducer) (found : Bool) : Type 0 where
+  pub idle : LeftIdle r s
   pub joined : JoinedTo b i j k
   pub none : found ≡ true
 
--- one piece of work after another
-pub idle_then : {b : Book} {u v w : Work} → LeftIdle b u v → LeftIdle b v w → LeftIdle b u w
-idle_then d e = record {
-  working = e.working;
-  room = e.room ∙ d.room;
-  cells = e.cells ∙ d.cells;
-  words = e.words ∙ d.words;
-  none = e.none;
-}
+-- the rules are the same after some work
+module _ {r s : Reducer} (d : LeftIdle r s) where
+  pub rule_still : (i : ℕ) → i < length (told r.rules.now.book).rules → i < length (told s.rules.now.book).rules
+  rule_still i l = subst (λ (t : Terminating). i < length (told t.book).rules) (sym d.lent.rules) l
 
-pub ample_still : {b : Book} {w v : Work} {n : ℕ} → LeftIdle b w v → Ample n w → Ample n v
-ample_still d a = record {
-  slots = omega (arith, a.slots, d.room);
-  cells = omega (arith, a.cells, d.cells);
-  words = omega (arith, a.words, d.words);
-}
+  pub symbol_still : (i k : ℕ) → k < size (rule_in r.rules.now.book i).left → k < size (rule_in s.rules.now.book i).left
+  symbol_still i k l = subst (λ (t : Terminating). k < size (rule_in t.book i).left) (sym d.lent.rules) l
+
+  pub says_still : (n i j k : ℕ) (x : Result Bool NoRoom) → OverlapSays s.rules.now.book n i j k x →
+      OverlapSays r.rules.now.book n i j k x
+  says_still n i j k x h = subst (λ (t : Terminating). OverlapSays t.book n i j k x) d.lent.rules h

@@ -24,7 +24,7 @@ use Rattle.books.proofs.Bookish.{is_rule}
 use Rattle.engine.specs.declared.types.Frames.{Frames}
 use Rattle.engine.specs.declared.types.NoRoom.{NoRoom}
 use Rattle.engine.specs.declared.work.Work.{Work}
-use Rattle.engine.specs.Meeting.{Ample, Working, TwoRoots, Compares}
+use Rattle.engine.specs.Meeting.{Ample, TwoRoots, Compares}
 use Rattle.overlaps.specs.declared.types.Overlap.{Overlap}
 use Rattle.overlaps.specs.declared.types.Pair.{Pair}
 use Rattle.overlaps.specs.Positions.{index, Stands, OverlapIs}
@@ -33,7 +33,7 @@ use Rattle.overlaps.specs.Verdict.{JoinedBy, Joined, TooLarge, OverlapSays}
 use Rattle.overlaps.proofs.Positions.{index_low}
 
 -- the term where the rules meet, and its two results
-module _ (b : Book) (su : Store) (w : Working b su) (o : Overlap) (stands : Stands b o) {v : Term}
+module _ (b : Book) (down : AllDown (rank (told b).ranks) (told b).rules) (su : Store) (o : Overlap) (stands : Stands b o) {v : Term}
     (place : Part v (rule_in b o.outer).left) (l : Least v (renamed (rule_in b o.inner).left)) where
   abbrev peak_term : Term
   peak_term = put l.s (rule_in b o.outer).left
@@ -61,10 +61,10 @@ module _ (b : Book) (su : Store) (w : Working b su) (o : Overlap) (stands : Stan
   second_step = overlap_step place l.s o.inner (rule_in b o.inner) is_q l.one
 
   pub first_fits : Fits (told b).parts (put l.s (rule_in b o.outer).right)
-  first_fits = step_keeps (told b) (sound_book_in b).reads.fine w.down first_step peak_fits
+  first_fits = step_keeps (told b) (sound_book_in b).reads.fine down first_step peak_fits
 
   pub second_fits : Fits (told b).parts (fill place l.s (put l.s (renamed (rule_in b o.inner).right)))
-  second_fits = step_keeps (told b) (sound_book_in b).reads.fine w.down second_step peak_fits
+  second_fits = step_keeps (told b) (sound_book_in b).reads.fine down second_step peak_fits
 
   peak_here : (f : ℕ) (vs : Terms) → v ≡ sign f vs → Peak (told b).rules peak_term
   peak_here f vs e = subst
@@ -125,7 +125,7 @@ module _ {b : Book} {i j k : ℕ} {o : Overlap} {st su : Store} (is : OverlapIs 
   never_joined h = subst₂ (λ (x y : ℕ). Joined b x y k) is.outer is.inner
       (λ f vs place e s d. absurd (h.pair (sign f vs) place (is.each (sign f vs) place e) s d))
 
-  module _ {r : Pair} {q0 q1 q2 : Roots} (found : PairFound b o st su (Some r))
+  module _ (down : AllDown (rank (told b).ranks) (told b).rules) {r : Pair} {q0 q1 q2 : Roots} (found : PairFound b o st su (Some r))
       (s1 : StackedOn q0 0 r.first.0 q1) (s2 : StackedOn q1 1 r.second.0 q2) (cells : 4 ≤ length q0.cells.now) where
     abbrev least : Least is.stands.part (renamed (rule_in b o.inner).left)
     least = (found.pair is.stands.part is.stands.place is.stands.at).0
@@ -141,7 +141,7 @@ module _ {b : Book} {i j k : ℕ} {o : Overlap} {st su : Store} (is : OverlapIs 
       ready = record { store = su; roots = q2; frames = fr }
 
       pub roots_two : TwoRoots b ready
-      roots_two = two_roots b su found.working o is.stands is.stands.place least r results q0 q1 q2 s1 s2 cells fr
+      roots_two = two_roots b down su o is.stands is.stands.place least r results q0 q1 q2 s1 s2 cells fr
 
       -- there is as much room as before
       still_ample : {n : ℕ} → Ample n before → Ample n ready
@@ -156,11 +156,11 @@ module _ {b : Book} {i j k : ℕ} {o : Overlap} {st su : Store} (is : OverlapIs 
       says n (Ok true) c a = subst₂ (λ (x y : ℕ). Joined b x y k) is.outer is.inner
           (λ f vs place e s d. let (l, res) = found.pair (sign f vs) place (is.each (sign f vs) place e) in
           results_through (rule_in b o.outer) (rule_in b o.inner) place s l.s s (l.most s d)
-          (same_meet b su found.working o is.stands place l r res q0 q1 q2 s1 s2 cells n (c (still_ample a))))
+          (same_meet b down su o is.stands place l r res q0 q1 q2 s1 s2 cells n (c (still_ample a))))
       says n (Ok false) c a =
-          different_apart b su found.working o is.stands is.stands.place least r results q0 q1 q2 s1 s2 cells n (c (still_ample a))
+          different_apart b down su o is.stands is.stands.place least r results q0 q1 q2 s1 s2 cells n (c (still_ample a))
       says n (Err e) c a = let (f, vs, is_f) = is.is_sign in
-          room_large b su found.working o is.stands is.stands.place least r results q0 q1 q2 s1 s2 cells f vs is_f n
+          room_large b down su o is.stands is.stands.place least r results q0 q1 q2 s1 s2 cells f vs is_f n
           (c (still_ample a))
 
 -- which of the overlaps are joined: all of the rules before the first one; of that one, all with the rules before the second; and with

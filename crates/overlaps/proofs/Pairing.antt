@@ -24,7 +24,6 @@ use Rattle.engine.specs.declared.types.Bindings.{Bindings}
 use Rattle.engine.specs.Matching.{put_in, AllInside, Bound}
 use Rattle.engine.specs.Building.{Fillable, RowInstanceBuilt}
 use Rattle.engine.specs.Running.{Honest}
-use Rattle.engine.specs.Meeting.{Working}
 use Rattle.engine.proofs.Builder.{signs_then}
 use Rattle.unification.specs.Unifiers.{Ready, Unified, least_of}
 use Rattle.overlaps.specs.declared.types.Overlap.{Overlap}
@@ -296,13 +295,10 @@ module _ (b : Book) {o : Overlap} {st : Store} {u : Bindings} {ps ws : List ℕ}
           }
 
 -- both together
-pub pair_found : {b : Book} {o : Overlap} {st su sv : Store} {u : Bindings} {r : Pair} → Working b st →
+pub pair_found : {b : Book} {o : Overlap} {st su sv : Store} {u : Bindings} {r : Pair} →
     UnifierFound b o st su (Some u) → ResultsBuilt b o su u sv r → PairFound b o st sv (Some r)
-pair_found {b} {su = su} {sv} w f m = record {
-  working = record {
-    down = w.down;
-    honest = fresh_honest (told b).rules sv (fresh_grown su sv m.grown f.fresh);
-  };
+pair_found {b} {su = su} {sv} f m = record {
+  honest = fresh_honest (told b).rules sv (fresh_grown su sv m.grown f.fresh);
   room = m.grown.room ∙ f.room;
   pair = λ v place at. (least_of (f.unified v place at), m.results v place at);
 }

@@ -7,10 +7,10 @@ use Rattle.store.specs.declared.types.Store.{Store}
 use Rattle.store.specs.declared.types.Place.{Place}
 use Rattle.store.specs.Stores.{Sound, Grown, term_in, flag_in, note_in}
 use Rattle.books.specs.declared.row.Book.{Book}
-use Rattle.books.specs.Books.{rule_in}
+use Rattle.books.specs.Books.{told, rule_in}
 use Rattle.engine.specs.declared.types.Bindings.{Bindings}
 use Rattle.engine.specs.Matching.{bound, put_in, AllInside, Bound}
-use Rattle.engine.specs.Meeting.{Working}
+use Rattle.engine.specs.Running.{Honest}
 use Rattle.unification.specs.Unifiers.{Unified}
 use Rattle.overlaps.specs.declared.types.Overlap.{Overlap}
 use Rattle.overlaps.specs.declared.types.Pair.{Pair}
@@ -73,6 +73,6 @@ PairOrNever b o {v} place su (Some r) = (l : Least v (renamed (rule_in b o.inner
 PairOrNever b o {v} place su None = (s : ℕ → Term) → put s v ≢ put s (renamed (rule_in b o.inner).left)
 
 pub record PairFound (b : Book) (o : Overlap) (st su : Store) (r : Maybe Pair) : Type 0 where
-  pub working : Working b su
+  pub honest : Honest (told b).rules su
   pub room : su.room ≡ st.room
   pub pair : (v : Term) (place : Part v (rule_in b o.outer).left) → At place o.from o.to → PairOrNever b o place su r

@@ -2,47 +2,52 @@
 ghost use Rattle.std.specs.Prelude.{◌≡◌, ℕ, ◌<◌, length};
 ghost use Rattle.rewriting.specs.Terms.{size};
 ghost use Rattle.books.specs.Books.{rule_in, told};
-ghost use Rattle.engine.specs.Meeting.{Ample, LeftIdle, Working};
+ghost use Rattle.engine.specs.Meeting.{Ample};
+ghost use Rattle.engine.specs.Reducers.{LeftIdle};
 ghost use Rattle.overlaps.specs.Verdict.{OneEndSays, OverlapSays};
 
 use crate::overlap::overlap_at;
 use crate::pairs::critical_pair;
-use books::Book;
+use engine::Reducer;
 use engine::types::NoRoom;
-use engine::work::Work;
 
 // Whether both results meet where rule j is used at symbol k of rule i's left side, if the two rules meet there.
-fn results_meet(book: &Book, i: usize, j: usize, k: usize, work: &mut Work) -> Result<bool, NoRoom>
-    requires working { (Working book.now work.old.store) × ((work.old.roots.top ≡ 0) × ((n : ℕ) × Ample n work.old)) }
-    requires i_in_bounds { (i < length (told book.now).rules) × (j < length (told book.now).rules) }
-    requires k_bound { k < size (rule_in book.now i).left }
-    ensures idle { LeftIdle book.now work.old work.new }
-    ensures result { (n : ℕ) → Ample n work.old → OverlapSays book.now n i j k result }
+fn results_meet(reducer: &mut Reducer, i: usize, j: usize, k: usize) -> Result<bool, NoRoom>
+    requires none { reducer.old.work.now.roots.top ≡ 0 }
+    requires room { (n : ℕ) × Ample n reducer.old.work.now }
+    requires rules { (i < length (told reducer.old.rules.now.book).rules) × (j < length (told reducer.old.rules.now.book).rules) }
+    requires symbol { k < size (rule_in reducer.old.rules.now.book i).left }
+    ensures idle { LeftIdle reducer.old reducer.new }
+    ensures result { (n : ℕ) → Ample n reducer.old.work.now → OverlapSays reducer.old.rules.now.book n i j k result }
 {
-    let Some(overlap) = overlap_at(book, i, j, k) else {
+    let rules = reducer.rules;
+    let Some(overlap) = overlap_at(rules, i, j, k) else {
         return Ok(true);
     };
-    let Some(pair) = critical_pair(book, overlap, &mut work.store) else {
+    let book = &rules.book;
+    let Some(pair) = critical_pair(book, overlap, &mut reducer.work.store) else {
         return Ok(true);
     };
-    work.roots.stack(0, pair.first);
-    work.roots.stack(1, pair.second);
-    work.compare(book)
+    reducer.work.roots.stack(0, pair.first);
+    reducer.work.roots.stack(1, pair.second);
+    reducer.compare()
 }
 
 // Whether all that comes from one term meets. A rule may meet itself too.
-pub fn one_end(book: &Book, work: &mut Work) -> Result<bool, NoRoom>
-    requires { (Working book.now work.old.store) × ((work.old.roots.top ≡ 0) × ((n : ℕ) × Ample n work.old)) }
-    ensures idle { LeftIdle book.now work.old work.new }
-    ensures result { (n : ℕ) → Ample n work.old → OneEndSays book.now n result }
+pub fn one_end(reducer: &mut Reducer) -> Result<bool, NoRoom>
+    requires none { reducer.old.work.now.roots.top ≡ 0 }
+    requires room { (n : ℕ) × Ample n reducer.old.work.now }
+    ensures idle { LeftIdle reducer.old reducer.new }
+    ensures result { (n : ℕ) → Ample n reducer.old.work.now → OneEndSays reducer.old.rules.now.book n result }
 {
     // Stays nested loops over numbers, left by a label: the project keeps this form here.
+    let book = &reducer.rules.book;
     let rules = book.layout.rules();
     let mut found = true;
     'pairs: for i in 0..rules {
         for j in 0..rules {
             for k in 0..book.rule(i).left.len() / 2 {
-                let meet = results_meet(book, i, j, k, work)?;
+                let meet = results_meet(reducer, i, j, k)?;
                 if !meet {
                     found = false;
                     break 'pairs;

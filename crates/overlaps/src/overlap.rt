@@ -1,14 +1,13 @@
 // Where the left side of one rule may be put on a part of another's, and what stands around that part.
 ghost use Rattle.std.specs.Prelude.{◌≡◌, ◌+◌, ◌<◌, ◌≤◌, length};
-ghost use Rattle.rewriting.specs.Order.{rank, AllDown};
 ghost use Rattle.rewriting.specs.Terms.{size};
 ghost use Rattle.rewriting.specs.Answers.{Tells};
 ghost use Rattle.books.specs.Books.{told, rule_in};
 ghost use Rattle.overlaps.specs.Positions.{holed, SameSign, OverlapOrNone};
 
 use crate::types::{HOLE, Overlap, Row};
-use books::Book;
 use books::words::{Letters, Symbol, symbol_at, term_end};
+use order::Terminating;
 
 // Whether a sign stands at a place of a row, and is the first one of another row.
 fn same_sign(row: &[u32], at: usize, other: &[u32]) -> bool
@@ -21,12 +20,12 @@ fn same_sign(row: &[u32], at: usize, other: &[u32]) -> bool
 }
 
 // The overlap at symbol k of rule i's left side, if the sign of rule j's left side stands there.
-pub fn overlap_at(book: &Book, i: usize, j: usize, k: usize) -> Option<Overlap>
-    requires down { AllDown (rank (told book.now).ranks) (told book.now).rules }
-    requires i_in_bounds { (i < length (told book.now).rules) × (j < length (told book.now).rules) }
-    requires k_bound { k < size (rule_in book.now i).left }
-    ensures { OverlapOrNone book.now i j k result }
+pub fn overlap_at(rules: &Terminating, i: usize, j: usize, k: usize) -> Option<Overlap>
+    requires rules { (i < length (told rules.now.book).rules) × (j < length (told rules.now.book).rules) }
+    requires symbol { k < size (rule_in rules.now.book i).left }
+    ensures { OverlapOrNone rules.now.book i j k result }
 {
+    let book = &rules.book;
     let left = book.rule(i).left;
     let from = 2 * k;
     if !same_sign(left, from, book.rule(j).left) {

@@ -1,7 +1,6 @@
 // Critical pairs: the two results where two rules meet.
 // Stays in the contracts that an overlap stands in the book: it relates two values, and the overlap doesn't hold the book.
 ghost use Rattle.std.specs.Prelude.{◌+◌, ◌≤◌};
-ghost use Rattle.engine.specs.Meeting.{Working};
 ghost use Rattle.overlaps.specs.Pairs.{AllGiven, PairFound, ResultsBuilt, UnifierFound};
 ghost use Rattle.overlaps.specs.Positions.{Stands};
 
@@ -53,7 +52,7 @@ fn results(book: &Book, overlap: Overlap, unifier: &Bindings, store: &mut Store)
 
 // The two results with the least replacement, if there is one. The store is cleared for them.
 pub fn critical_pair(book: &Book, overlap: Overlap, store: &mut Store) -> Option<Pair>
-    requires { (Working book.now store.old) × ((Stands book.now overlap) × (512 ≤ store.old.room)) }
+    requires { (Stands book.now overlap) × (512 ≤ store.old.room) }
     ensures { PairFound book.now overlap store.old store.new result }
 {
     let unifier = unifier(book, overlap, store)?;

@@ -4,10 +4,11 @@
 #[cfg(test)]
 mod tests {
     use books::Book;
+    use engine::Reducer;
     use engine::types::NoRoom;
     use engine::work::share_out;
     use notation::parse;
-    use order::first_up;
+    use order::Terminating;
     use overlaps::ends::one_end;
     use std::alloc::Global;
     use std::test::Fail;
@@ -85,11 +86,13 @@ rules
 
     // What is found of a book; nothing if the words are no book whose rules go down.
     fn found(words: &[u32], work: &mut [u32]) -> Option<Result<bool, NoRoom>> {
-        let book = Book::read(words)?;
-        if first_up(&book).is_some() {
-            return None;
-        }
-        Some(one_end(&book, &mut share_out(work)?))
+        let rules = Terminating::new(Book::read(words)?).ok()?;
+        let mut work = share_out(work)?;
+        let mut reducer = Reducer {
+            rules: &rules,
+            work: &mut work,
+        };
+        Some(one_end(&mut reducer))
     }
 
     // Whether a book has one end, if that is found with 16,384 work words, and 64 for each word of the book and so many more.

@@ -14,6 +14,7 @@ pub mod Ordering
 pub mod Grounding
 pub mod Terminating
 pub mod Reducts
+pub mod Reaching
 pub mod Height
 -- unification and one end
 pub mod Unifying

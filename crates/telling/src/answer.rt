@@ -2,9 +2,10 @@
 // Stays in the contracts what judging says of the given rows: it relates an answer to rows, which are lent apart.
 ghost use Rattle.std.specs.Prelude.{◌≡◌, ◌+◌, length, ◌≢◌};
 ghost use Rattle.rewriting.specs.Answers.{Tells};
-ghost use Rattle.engine.specs.Meeting.{Ample, Working, most_parts, LeftIdle};
+ghost use Rattle.engine.specs.Meeting.{Ample, most_parts};
 ghost use Rattle.equal.specs.declared.types.Judged.TheVariants.{Settles};
 ghost use Rattle.equal.specs.Promises.{JudgedSays, JudgedPost, ToldPost, TooFew};
+ghost use Rattle.equal.specs.Serving.{Serves, StillServes};
 
 use engine::work::Work;
 use equal::{Judged, Settled, Told, not_settled, too_few_with_terms};
@@ -55,10 +56,10 @@ pub fn settled_answer(
     work: &mut Work,
 ) -> Told
     requires settles { JudgedSays given.book.now given.ways.now Settles }
-    requires book { settled.now.book.words.now ≡ given.book.now }
-    requires working { (Working settled.now.book work.old.store) × (work.old.roots.top ≡ 0) }
+    requires book { settled.now.rules.book.words.now ≡ given.book.now }
+    requires serves { Serves settled.now.rules.book.words.now work.old }
     requires ample { Ample (most_parts given.work) work.old }
-    ensures idle { LeftIdle settled.now.book work.old work.new }
+    ensures serves { StillServes settled.now.rules.book.words.now work.old work.new }
     ensures told { ToldPost given.entry.book.now given.entry.ways.now one.now other.now
         given.entry.work result }
 {

@@ -60,14 +60,14 @@ fn tell_settled<R: Read>(
     settled: &Settled<'_, '_>,
     work: &mut Work,
 ) -> Result<(), Stopped>
-    requires { Ready given settled.now.book work.old }
+    requires { Ready given settled.now.rules.book work.old }
 {
     tell_each(
         asking,
         reader,
         |one: &[u32], other: &[u32]|
-            requires { Ready given settled.now.book work.now }
-            ensures ready { Ready given.exit settled.exit.now.book work.exit.now }
+            requires { Ready given settled.now.rules.book work.now }
+            ensures ready { Ready given.exit settled.exit.now.rules.book work.exit.now }
             ensures told { ToldPost given.entry.book.now given.entry.ways.now one.now other.now given.entry.work result }
         { settled_answer(given, settled, one, other, work) },
     )

@@ -1,7 +1,8 @@
 -- What was found of the book and of the terms, with the theorems.
 use Rattle.std.proofs.Common.{length, refl, arith}
-use Rattle.equal.proofs.Promised.{told_small, told_other, judged_post, settles_said, settled_idle, told_rows}
-use Rattle.equal.proofs.Sides.{ample_kept}
+use Rattle.equal.proofs.Promised.{told_small, told_other, judged_post, settles_said, settled_serves, told_rows}
+use Rattle.engine.proofs.Keeping.{ample_still}
+use Rattle.equal.proofs.Serving.{serves_for}
 use Rattle.equal.proofs.tell.Goals as goal
 
 pub returns-then-too_few_with_terms : goal.returns-then-too_few_with_terms
@@ -12,9 +13,7 @@ returns-then-too_few_with_terms c =
 pub compare-requires : goal.compare-requires
 compare-requires c =
     let few = c.if-too_few_with_terms.ensures.fails refl in
-    let idle = settled_idle c.in-Some.ensures.1 (λ e. few (omega arith)) c.in-Settles.ensures c.new-settled.result.book
-    c.new-settled.ensures.book in
-    (idle.working, idle.none)
+    serves_for (settled_serves c.in-Some.ensures.1 (λ e. few (omega arith)) c.in-Settles.ensures) c.new-settled.ensures.book
 
 pub returns-in_default-judge_in : goal.returns-in_default-judge_in
 returns-in_default-judge_in c =
@@ -27,9 +26,7 @@ pub returns-in-Settles : goal.returns-in-Settles
 returns-in-Settles c =
     let fresh = c.in-Some.ensures.1 in
     let few = c.if-too_few_with_terms.ensures.fails refl in
-    let b = c.new-settled.result.book in
-    let same = c.new-settled.ensures.book in
-    let idle = settled_idle fresh (λ e. few (omega arith)) c.in-Settles.ensures b same in
+    let serves = settled_serves fresh (λ e. few (omega arith)) c.in-Settles.ensures in
     let said = settles_said fresh (λ e. few (omega arith)) c.in-Settles.ensures in
     told_rows c.args.book.now c.args.ways.now c.args.one.now c.args.other.now (length c.args.work.now) few
-    b same said (ample_kept idle fresh.ample) c.compare.ensures.result
+    c.new-settled.result.rules.book c.new-settled.ensures.book said (ample_still serves.idle fresh.ample) c.compare.ensures.result

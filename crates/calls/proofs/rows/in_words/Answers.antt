@@ -9,5 +9,5 @@ use Rattle.calls.proofs.rows.in_words.Goals as goal
 pub returns : goal.returns
 returns c =
     let shared = subst (SharedOut (length c.args.work.now)) c.in_ok-work.ensures.ok_part c.share_out.ensures in
-    words_answer (told c.args.book.now) c.args.term.now (length c.args.work.now) (length c.args.out.now)
+    words_answer (told c.args.rules.now.book) c.args.term.now (length c.args.work.now) (length c.args.out.now)
     c.through.new.out c.through.result (c.through.ensures (most_parts (length c.args.work.now)) shared.1.ample)

@@ -3,4 +3,4 @@ use Rattle.overlaps.proofs.Pairing.{pair_found}
 use Rattle.overlaps.proofs.pairs.critical_pair.Goals as goal
 
 pub returns : goal.returns
-returns c = pair_found c.requires.0 c.in_ok-unifier.ensures c.results.ensures
+returns c = pair_found c.in_ok-unifier.ensures c.results.ensures

@@ -11,5 +11,5 @@ returns-then-too_few-clause-told c =
 pub returns-clause-told : goal.returns-clause-told
 returns-clause-told c =
     told_rows c.args.given.book.now c.args.given.ways.now c.args.one.now c.args.other.now c.args.given.work
-    (c.if-too_few.ensures.fails refl) c.args.settled.now.book c.requires.book c.requires.settles c.requires.ample
+    (c.if-too_few.ensures.fails refl) c.args.settled.now.rules.book c.requires.book c.requires.settles c.requires.ample
     c.compare.ensures.result

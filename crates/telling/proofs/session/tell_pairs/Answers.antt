@@ -1,7 +1,8 @@
 -- What is found of the book goes on to its terms.
 use Rattle.std.proofs.Common.{length, refl}
-use Rattle.equal.proofs.Promised.{judged_few, judged_post, settles_said, settled_idle}
-use Rattle.equal.proofs.Sides.{ample_kept}
+use Rattle.equal.proofs.Promised.{judged_few, judged_post, settles_said, settled_serves}
+use Rattle.engine.proofs.Keeping.{ample_still}
+use Rattle.equal.proofs.Serving.{serves_for}
 use Rattle.telling.proofs.session.tell_pairs.Goals as goal
 
 pub tell_refused-requires : goal.tell_refused-requires
@@ -15,13 +16,12 @@ tell_settled-requires g c =
     let fresh = c.in-Some.ensures.1 in
     let enough = c.if-too_few.ensures.fails refl in
     let same = c.new.ensures.book in
-    let idle = settled_idle fresh enough c.in-Settles.ensures c.new.result.book same in
+    let serves = settled_serves fresh enough c.in-Settles.ensures in
     record {
       settles = settles_said fresh enough c.in-Settles.ensures;
       book = same;
-      working = idle.working;
-      none = idle.none;
-      ample = ample_kept idle fresh.ample;
+      serves = serves_for serves same;
+      ample = ample_still serves.idle fresh.ample;
     }
 
 pub tell_refused-requires-in_default-judge_in : goal.tell_refused-requires-in_default-judge_in
