@@ -5,7 +5,8 @@ ghost use Rattle.books.specs.Books.{told};
 use crate::down::first_up;
 use books::Book;
 
-// Such a book.
+// Such a book. The fact is stated barely, since a field's fact has to be one that can be had in one way only; it can be decided, so
+// nothing is lost.
 #[derive(Drop)]
 pub struct Terminating<'a> {
     pub book: Book<'a>,
