@@ -1,6 +1,7 @@
 -- Rules and equations by the book's words.
-use Rattle.std.proofs.Common.{◌≡◌, ℕ, ◌+◌, ◌-◌, ◌*◌, ◌<◌, List, length, get_or, take, drop, sym, ap}
-use Rattle.std.proofs.Common.{◌∙◌, ap₂, subst₂, arith}
+use Rattle.std.proofs.Common.{◌≡◌, ℕ, ◌+◌, ◌-◌, ◌*◌, ◌<◌, ◌≤◌, List, length, get_or, take, drop, sym, ap}
+use Rattle.std.proofs.Common.{◌∙◌, refl, ap₂, subst₂, arith}
+use native.Mathlib.Decide.{dec_lt}
 use mathlib.Core.Option.{some}
 use lib.Seq.{take-append_seam}
 use Rattle.rewriting.specs.Terms.{nth, Term}
@@ -13,7 +14,8 @@ use Rattle.books.proofs.Elements.{nth_getD}
 use Rattle.books.proofs.Glueing.{row_length}
 use Rattle.books.proofs.Sided.{nth_left, nth_right, nth_behind, nth_front}
 use Rattle.books.specs.declared.row.Book.{Book}
-use Rattle.books.specs.Books.{told, SoundBook, blank, rule_in, equation_in, RuleAt, EquationAt}
+use Rattle.books.specs.declared.row.Sides.{Sides as Slices}
+use Rattle.books.specs.Books.{told, SoundBook, sound_book_in, blank, rule_in, equation_in, RuleAt, EquationAt, CutAt, RuleStands, EquationStands}
 
 module _ (k : Book) (sound : SoundBook k) where
   start : ℕ → ℕ
@@ -79,6 +81,34 @@ module _ (k : Book) (sound : SoundBook k) where
           left = h.0;
           right = h.1;
         }
+
+-- an equation's or a rule's sides follow each other within the words
+pub record Follow (k : Book) (n : ℕ) : Type 0 where
+  pub left : get_or k.layout.starts (2 * n) 0 ≤ get_or k.layout.starts (2 * n + 1) 0
+  pub right : get_or k.layout.starts (2 * n + 1) 0 ≤ get_or k.layout.starts (2 * n + 2) 0
+  pub within : get_or k.layout.starts (2 * n + 2) 0 ≤ length k.words.now
+
+module _ (k : Book) where
+  at : ℕ → ℕ
+  at j = get_or k.layout.starts j 0
+
+  placed : (n : ℕ) (l r : Term) → TermAt k.words.now (at (2 * n)) (at (2 * n + 1)) l →
+      TermAt k.words.now (at (2 * n + 1)) (at (2 * n + 2)) r → Follow k n
+  unfolding at
+  placed n l r x y = record { left = omega (arith, x.long); right = omega (arith, y.long); within = y.within }
+
+  pub follow : (n : ℕ) → n < length (told k).eqs + length (told k).rules → Follow k n
+  unfolding at
+  follow n low = aux (dec_lt n (length (told k).eqs))
+    where
+      aux : Dec (n < length (told k).eqs) → Follow k n
+      aux (yes h) = let w = equation_at k (sound_book_in k) n h _ _ _ refl refl refl in placed n _ _ w.left w.right
+      aux (no h) =
+          let i = n - length (told k).eqs in
+          let e : k.layout.equations + i ≡ n = omega (arith, k.laid.equations, h) in
+          let w = rule_at k (sound_book_in k) i (omega arith) _ _ _ (ap (λ (j : ℕ). at (2 * j)) (sym e))
+          (ap (λ (j : ℕ). at (2 * j + 1)) (sym e)) (ap (λ (j : ℕ). at (2 * j + 2)) (sym e)) in
+          placed n _ _ w.left w.right
 
 -- a side, cut out of the words
 pub side_cut : (ws : List ℕ) (a z : ℕ) (t : Term) → TermAt ws a z t → take (z - a) (drop a ws) ≡ row t

@@ -1,5 +1,5 @@
 -- A book by its words: its equations and rules, and where their sides stand.
-use Rattle.std.specs.Prelude.{◌≡◌, ℕ, List, Some, None, Option as Maybe, slice_index_or}
+use Rattle.std.specs.Prelude.{◌≡◌, ℕ, ◌-◌, List, take, drop, Some, None, Option as Maybe, slice_index_or}
 use Rattle.rewriting.specs.Terms.{letter}
 use Rattle.rewriting.specs.Rules.{Eq}
 use Rattle.rewriting.specs.Books.{Book as Told}
@@ -7,6 +7,7 @@ use Rattle.books.specs.Rows.{Reads}
 use Rattle.books.specs.Reading.{book_of, TermAt}
 use Rattle.books.specs.Layouts.{Laid}
 use Rattle.books.specs.declared.row.Book.{Book}
+use Rattle.books.specs.declared.row.Sides.{Sides}
 
 -- the book that the words say
 abbrev pub told : Book → Told
@@ -45,3 +46,15 @@ pub record RuleAt (k : Book) (i a m z : ℕ) : Type 0 where
 pub record EquationAt (k : Book) (i a m z : ℕ) : Type 0 where
   pub left : TermAt k.words.now a m (equation_in k i).left
   pub right : TermAt k.words.now m z (equation_in k i).right
+
+-- the slices are the words from place a up to place m, and from there up to place z
+pub record CutAt (k : Book) (a m z : ℕ) (s : Sides) : Type 0 where
+  pub left : s.left.now ≡ take (m - a) (drop a k.words.now)
+  pub right : s.right.now ≡ take (z - m) (drop m k.words.now)
+
+-- the slices are where rule i, or equation i, stands in the words
+abbrev pub RuleStands : Book → ℕ → Sides → Type 0
+RuleStands k i s = (a : ℕ) × (m : ℕ) × (z : ℕ) × RuleAt k i a m z × CutAt k a m z s
+
+abbrev pub EquationStands : Book → ℕ → Sides → Type 0
+EquationStands k i s = (a : ℕ) × (m : ℕ) × (z : ℕ) × EquationAt k i a m z × CutAt k a m z s

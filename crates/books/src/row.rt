@@ -17,17 +17,16 @@ pub struct Book<'a> {
     pub ghost laid: { Laid words.now (book_of words.now) layout } by { Laid-prop words.now (book_of words.now) layout },
 }
 
-// Where the sides of a rule or an equation stand in the words: the left one up to where the right one starts.
+// The rows of the sides of a rule or an equation.
 #[derive(Clone, Copy)]
-pub struct Sides {
-    pub left: usize,
-    pub right: usize,
-    pub end: usize,
+pub struct Sides<'a> {
+    pub left: &'a [u32],
+    pub right: &'a [u32],
 }
 
 // Stays in the contracts that there is a rule or an equation i: it is a fact of an index.
 impl<'a> Book<'a> {
-    ghost use Rattle.books.specs.Books.{told, rule_in, equation_in, RuleAt, EquationAt, RowRead};
+    ghost use Rattle.books.specs.Books.{told, rule_in, equation_in, CutAt, RuleStands, EquationStands, RowRead};
 
     // The book that the words are the row of, or none.
     pub fn read(words: &'a [u32]) -> Option<Book<'a>>
@@ -52,68 +51,36 @@ impl<'a> Book<'a> {
         &self.words[1 + signs..1 + 2 * signs]
     }
 
-    fn sides(&self, k: usize) -> Sides
-        requires { k < 1000 }
-        ensures left { result.left ≡ slice_index self.now.layout.starts (2 * k) }
-        ensures right { result.right ≡ slice_index self.now.layout.starts (2 * k + 1) }
-        ensures end { result.end ≡ slice_index self.now.layout.starts (2 * k + 2) }
+    // The rows of sides 2k and 2k + 1 of the layout.
+    fn sides(&self, k: usize) -> Sides<'_>
+        requires { k < length (told self.now).eqs + length (told self.now).rules }
+        ensures { CutAt self.now (slice_index self.now.layout.starts (2 * k)) (slice_index self.now.layout.starts (2 * k + 1))
+            (slice_index self.now.layout.starts (2 * k + 2)) result }
     {
+        let middle = self.layout.start(2 * k + 1);
         Sides {
-            left: self.layout.start(2 * k),
-            right: self.layout.start(2 * k + 1),
-            end: self.layout.start(2 * k + 2),
+            left: &self.words[self.layout.start(2 * k)..middle],
+            right: &self.words[middle..self.layout.start(2 * k + 2)],
         }
     }
 
-    // Where the sides of equation i stand.
-    pub fn equation(&self, i: usize) -> Sides
+    // The rows of the sides of equation i.
+    pub fn equation(&self, i: usize) -> Sides<'_>
         requires { i < length (told self.now).eqs }
-        ensures { EquationAt self.now i result.left result.right result.end }
+        ensures left { result.left.now ≡ row (equation_in self.now i).left }
+        ensures right { result.right.now ≡ row (equation_in self.now i).right }
+        ensures stands { EquationStands self.now i result }
     {
         self.sides(i)
     }
 
-    // Where the sides of rule i stand.
-    pub fn rule(&self, i: usize) -> Sides
+    // The rows of the sides of rule i.
+    pub fn rule(&self, i: usize) -> Sides<'_>
         requires { i < length (told self.now).rules }
-        ensures { RuleAt self.now i result.left result.right result.end }
+        ensures left { result.left.now ≡ row (rule_in self.now i).left }
+        ensures right { result.right.now ≡ row (rule_in self.now i).right }
+        ensures stands { RuleStands self.now i result }
     {
         self.sides(self.layout.equations() + i)
-    }
-
-    // The row of the left side of equation i.
-    pub fn equation_left(&self, i: usize) -> &[u32]
-        requires { i < length (told self.now).eqs }
-        ensures { result.now ≡ row (equation_in self.now i).left }
-    {
-        let Sides { left, right, .. } = self.equation(i);
-        &self.words[left..right]
-    }
-
-    // The row of the right side of equation i.
-    pub fn equation_right(&self, i: usize) -> &[u32]
-        requires { i < length (told self.now).eqs }
-        ensures { result.now ≡ row (equation_in self.now i).right }
-    {
-        let Sides { right, end, .. } = self.equation(i);
-        &self.words[right..end]
-    }
-
-    // The row of the left side of rule i.
-    pub fn left(&self, i: usize) -> &[u32]
-        requires { i < length (told self.now).rules }
-        ensures { result.now ≡ row (rule_in self.now i).left }
-    {
-        let Sides { left, right, .. } = self.rule(i);
-        &self.words[left..right]
-    }
-
-    // The row of the right side of rule i.
-    pub fn right(&self, i: usize) -> &[u32]
-        requires { i < length (told self.now).rules }
-        ensures { result.now ≡ row (rule_in self.now i).right }
-    {
-        let Sides { right, end, .. } = self.rule(i);
-        &self.words[right..end]
     }
 }

@@ -1,5 +1,5 @@
 -- Rules tried at the top of a term: where the top sign of a left side stands, and what the rules that failed say together.
-use Rattle.std.proofs.Common.{◌≡◌, ℕ, ◌<◌, ◌≤◌, List, ◌∷◌, length, get_or, sym, refl, ap, ◌∙◌, subst, arith}
+use Rattle.std.proofs.Common.{◌≡◌, ℕ, ◌<◌, ◌≤◌, List, ◌∷◌, length, get_or, Some, None, Option as Maybe, ◌≢◌, sym, refl, ap, ◌∙◌, subst, arith}
 use Rattle.rewriting.specs.Terms.{Term, letter, sign, Terms, put, puts, SmallLetter, Fits}
 use Rattle.rewriting.specs.Rules.{Eq}
 use Rattle.rewriting.specs.Order.{Rank, rank, Greater, by_part, by_sign, by_order}
@@ -7,6 +7,9 @@ use Rattle.rewriting.specs.Machine.{Still}
 use Rattle.rewriting.proofs.Ordering.{greater_letters}
 use Rattle.rewriting.proofs.Signature.{over_fits, over_letters}
 use Rattle.books.specs.Rows.{row, rows}
+use Rattle.books.specs.Reading.{SymbolAt}
+use Rattle.books.specs.declared.words.Symbol.{Symbol}
+use Rattle.books.specs.declared.words.Symbol.TheVariants.{Letter, Sign}
 use Rattle.books.proofs.Elements.{nth_below, nth_is}
 use Rattle.store.specs.declared.types.Store.{Store}
 use Rattle.store.specs.declared.types.Place.{Place}
@@ -29,7 +32,14 @@ greater_sign (by_order {f = f} {ts = ts} o h) = (f, ts, refl)
 pub record SignTold (ws : List ℕ) (l : Term) : Type 0 where
   pub parts : Terms
   pub within : 2 ≤ length ws
+  pub tag : get_or ws 0 0 ≡ 1
   pub is : l ≡ sign (get_or ws 1 0) parts
+
+-- its first symbol is that sign
+first_symbol : {ws : List ℕ} {l : Term} → SignTold ws l → (y : Maybe Symbol) → SymbolAt ws 0 y → y ≡ Some (Sign (get_or ws 1 0))
+first_symbol h (Some (Sign g)) a = ap (λ (j : ℕ). Some (Sign j)) (sym a.2)
+first_symbol h (Some (Letter x)) a = absurd (omega (arith, h.tag, a.1))
+first_symbol h None a = absurd (omega (arith, h.tag, a h.within))
 
 -- a rule's sides in the words: the left one is a pattern, and the right one can be built from its row
 module _ (k : Book) (i : ℕ) (low : i < length (told k).rules) where
@@ -66,16 +76,18 @@ module _ (k : Book) (st : Store) (p : Place) (can : Rewritable k st p) where
         record {
           parts = ts;
           within = omega (arith, ap length w);
+          tag = ap (λ (vs : List ℕ). get_or vs 0 0) w;
           is = e ∙ ap (λ (f : ℕ). sign f ts) (sym (ap (λ (vs : List ℕ). get_or vs 1 0) w));
         }
 
     -- with another sign at the top it does not match
-    pub other_sign : (ws : List ℕ) (f : ℕ) → ws ≡ row (rule_in k i).left → (get_or ws 1 0 ≡ f → ⊥) → TopSign st p f →
-        (s : ℕ → Term) → put s (rule_in k i).left ≡ term_in st p.0 → ⊥
-    other_sign ws f r n (us, e) s d =
+    pub other_sign : (ws : List ℕ) (y : Maybe Symbol) (f : ℕ) → ws ≡ row (rule_in k i).left → SymbolAt ws 0 y → y ≢ Some (Sign f) →
+        TopSign st p f → (s : ℕ → Term) → put s (rule_in k i).left ≢ term_in st p.0
+    other_sign ws y f r a n (us, e) s d =
         let h = sign_told ws r in
         let x : sign (get_or ws 1 0) (puts s h.parts) ≡ sign f us = sym (ap (put s) h.is) ∙ d ∙ e in
-        n (cc)
+        let g : get_or ws 1 0 ≡ f = cc in
+        n (first_symbol h y a ∙ ap (λ (j : ℕ). Some (Sign j)) g)
 
     pub no_letter : (x : ℕ) → term_in st p.0 ≡ letter x → (s : ℕ → Term) → put s (rule_in k i).left ≡ term_in st p.0 → ⊥
     no_letter x e s d =

@@ -10,6 +10,7 @@ use crate::instance::row_instance;
 use crate::matching::bind_pattern;
 use crate::types::Bindings;
 use books::Book;
+use books::words::{Symbol, symbol_at};
 use store::{Node, Place, Store};
 
 // Matches the left side of rule i with the term at p, whose top sign is f. Most rules fail at that sign already.
@@ -25,8 +26,8 @@ fn match_rule(
     requires { (Rewritable book.now store.now p) × ((i < length (told book.now).rules) × (TopSign store.now p f)) }
     ensures { MatchedOn store.now nothing (rule_in book.now i).left (term_in store.now p.0) (given result bindings.new) }
 {
-    let left = book.left(i);
-    if left[1] != f {
+    let left = book.rule(i).left;
+    if symbol_at(left, 0) != Some(Symbol::Sign(f)) {
         return false;
     }
     *bindings = Bindings::new();
@@ -42,7 +43,7 @@ fn find_rule(book: &Book, store: &Store, p: Place, bindings: &mut Bindings) -> O
     let Node::Sign(f, _) = store.view(p) else {
         return None;
     };
-    // Stays a loop over numbers: a book gives its rules by their numbers.
+    // Stays a loop over numbers: tried `find`: a proof learns nothing of what its closure has put behind `bindings`.
     for i in 0..book.layout.rules() {
         if match_rule(book, i, store, p, f, bindings) {
             return Some(i);
@@ -58,5 +59,5 @@ pub fn rewrite(book: &Book, store: &mut Store, p: Place) -> Option<Place>
 {
     let mut bindings = Bindings::new();
     let i = find_rule(book, store, p, &mut bindings)?;
-    Some(row_instance(book.parts(), book.right(i), &bindings, store))
+    Some(row_instance(book.parts(), book.rule(i).right, &bindings, store))
 }

@@ -5,7 +5,7 @@ ghost use Rattle.books.specs.Books.{equation_in, told};
 ghost use Rattle.engine.specs.Meeting.{Compares, LeftIdle, Working};
 ghost use Rattle.equal.specs.Judging.{AmpleFor, EquationsSay};
 
-use books::Book;
+use books::{Book, Sides};
 use engine::types::NoRoom;
 use engine::work::Work;
 
@@ -17,8 +17,7 @@ fn sides_meet(book: &Book, i: usize, work: &mut Work) -> Result<bool, NoRoom>
     ensures result { (n : ℕ) → AmpleFor book.now n work.old →
         Compares book.now n (equation_in book.now i).left (equation_in book.now i).right result }
 {
-    let left = book.equation_left(i);
-    let right = book.equation_right(i);
+    let Sides { left, right } = book.equation(i);
     work.compare_rows(book, left, right).unwrap()
 }
 

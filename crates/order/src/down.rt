@@ -6,16 +6,17 @@ ghost use Rattle.order.specs.Downward.{GoesDown, FirstUp};
 
 use crate::table::Table;
 use crate::terms::Comparison;
-use books::Book;
+use books::{Book, Sides};
 
 // Whether rule i goes down: its left side is greater than its right side by the book's ranks.
 pub fn goes_down(book: &Book, i: usize) -> bool
     requires { i < length (told book.now).rules }
     ensures { Tells result (GoesDown book.now i) }
 {
+    let Sides { left, right } = book.rule(i);
     let comparison = Comparison {
-        left: book.left(i),
-        right: book.right(i),
+        left,
+        right,
         parts: book.parts(),
         ranks: book.ranks(),
     };

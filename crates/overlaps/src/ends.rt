@@ -41,7 +41,7 @@ pub fn one_end(book: &Book, work: &mut Work) -> Result<bool, NoRoom>
     let mut found = true;
     'pairs: for i in 0..rules {
         for j in 0..rules {
-            for k in 0..book.left(i).len() / 2 {
+            for k in 0..book.rule(i).left.len() / 2 {
                 let meet = results_meet(book, i, j, k, work)?;
                 if !meet {
                     found = false;

@@ -27,9 +27,9 @@ pub fn overlap_at(book: &Book, i: usize, j: usize, k: usize) -> Option<Overlap>
     requires k_bound { k < size (rule_in book.now i).left }
     ensures { OverlapOrNone book.now i j k result }
 {
-    let left = book.left(i);
+    let left = book.rule(i).left;
     let from = 2 * k;
-    if !same_sign(left, from, book.left(j)) {
+    if !same_sign(left, from, book.rule(j).left) {
         return None;
     }
     let to = term_end(Letters::Small, book.parts(), left, from)?;

@@ -8,7 +8,7 @@ ghost use Rattle.overlaps.specs.Positions.{Stands};
 use crate::letters::{all_letters, bind_hole, shifted};
 use crate::overlap::with_hole;
 use crate::types::{Overlap, Pair};
-use books::Book;
+use books::{Book, Sides};
 use engine::instance::row_instance;
 use engine::types::Bindings;
 use store::Store;
@@ -23,10 +23,10 @@ fn unifier(book: &Book, overlap: Overlap, store: &mut Store) -> Option<Bindings>
     let letters = all_letters(store);
     let from = overlap.from;
     let to = overlap.to;
-    let left = book.left(overlap.outer);
+    let left = book.rule(overlap.outer).left;
     let part = row_instance(book.parts(), &left[from..to], &letters, store);
     let renamed = shifted(&letters);
-    let other = row_instance(book.parts(), book.left(overlap.inner), &renamed, store);
+    let other = row_instance(book.parts(), book.rule(overlap.inner).left, &renamed, store);
     unify(store, &letters, part, other)
 }
 
@@ -36,10 +36,16 @@ fn results(book: &Book, overlap: Overlap, unifier: &Bindings, store: &mut Store)
     requires space { store.old.count + 96 ≤ store.old.limit }
     ensures { ResultsBuilt book.now overlap store.old unifier.now store.new result }
 {
-    let first = row_instance(book.parts(), book.right(overlap.outer), unifier, store);
+    let Sides { left, right } = book.rule(overlap.outer);
+    let first = row_instance(book.parts(), right, unifier, store);
     let renamed = shifted(unifier);
-    let inner = row_instance(book.parts(), book.right(overlap.inner), &renamed, store);
-    let context = with_hole(book.left(overlap.outer), overlap.from, overlap.to);
+    let inner = row_instance(
+        book.parts(),
+        book.rule(overlap.inner).right,
+        &renamed,
+        store,
+    );
+    let context = with_hole(left, overlap.from, overlap.to);
     let filling = bind_hole(unifier, inner);
     let second = row_instance(book.parts(), context.as_slice(), &filling, store);
     Pair { first, second }

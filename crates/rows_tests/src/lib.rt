@@ -3,7 +3,7 @@
 
 #[cfg(test)]
 mod tests {
-    use books::{Book, are_ways, is_term, read_book};
+    use books::{Book, Sides, are_ways, is_term, read_book};
     use std::alloc::{AllocError, Global};
     use std::test::Fail;
 
@@ -78,12 +78,14 @@ mod tests {
         assert!(rt; book.parts() == &SUMS[1..4]);
         assert!(rt; book.ranks() == &SUMS[4..7]);
         if book.layout.equations() > 0 {
-            assert!(rt; book.equation_left(0) == &SUMS[9..15]);
-            assert!(rt; book.equation_right(0) == &SUMS[15..17]);
+            let Sides { left, right } = book.equation(0);
+            assert!(rt; left == &SUMS[9..15]);
+            assert!(rt; right == &SUMS[15..17]);
         }
         if book.layout.rules() > 1 {
-            assert!(rt; book.left(1) == &SUMS[41..49]);
-            assert!(rt; book.right(1) == &SUMS[49..57]);
+            let Sides { left, right } = book.rule(1);
+            assert!(rt; left == &SUMS[41..49]);
+            assert!(rt; right == &SUMS[49..57]);
         }
         Ok(())
     }

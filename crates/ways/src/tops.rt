@@ -7,6 +7,7 @@ ghost use Rattle.books.specs.Books.{told, equation_in};
 ghost use Rattle.ways.specs.Steps.{Comparable, Equated, SidesAre};
 
 use crate::walk::Walk;
+use books::Sides;
 use engine::matching::match_pattern;
 use engine::types::Bindings;
 use store::Place;
@@ -18,8 +19,9 @@ impl Walk<'_, '_, '_> {
         ensures { Tells (is_some result) (SidesAre (equation_in self.now.book.now i) (term_in self.now.store.now p.0)
             (term_in self.now.store.now q.0)) }
     {
-        let bindings = match_pattern(self.book.equation_left(i), self.store, p, Bindings::new())?;
-        match_pattern(self.book.equation_right(i), self.store, q, bindings)
+        let Sides { left, right } = self.book.equation(i);
+        let bindings = match_pattern(left, self.store, p, Bindings::new())?;
+        match_pattern(right, self.store, q, bindings)
     }
 
     // Whether an equation leads from the term at p to that at q at the top, either way round.

@@ -95,8 +95,7 @@ impl Walk<'_, '_, '_> {
         ensures term { held self.new.store.now self.new.roots.now 0 ≡ (rule_in self.old.book.now i).left }
     {
         self.roots.truncate(0);
-        let left = self.book.left(i);
-        self.read(left);
+        self.read(self.book.rule(i).left);
     }
 
     // Whether the terms at a place of the ways, as many as are said, lead from the left side of rule i to its right side: where they end.
@@ -107,8 +106,7 @@ impl Walk<'_, '_, '_> {
     {
         self.begin(i);
         let end = self.follow(from, count)?;
-        let right = self.book.right(i);
-        self.is_held(right).then_some(end)
+        self.is_held(self.book.rule(i).right).then_some(end)
     }
 
     // Whether each rule is shown by its way: where the last one ends.

@@ -13,7 +13,7 @@ row_instance-requires-clause-few_parts c =
       book_parts k.words.now (told k) k.reads _ (c.parts.ensures ∙ sym (head_of k.words.now (told k) k.reads).parts),
       (
         _,
-        right_fillable k c.in_ok-i.i found.0 _ _ c.find_rule.new.bindings c.parts.ensures c.right.ensures
+        right_fillable k c.in_ok-i.i found.0 _ _ c.find_rule.new.bindings c.parts.ensures c.rule.ensures.right
             (right_bound k c.args.store.now c.args.p c.requires.0 c.in_ok-i.i found.0 c.find_rule.new.bindings found.1),
       ),
     )
@@ -22,7 +22,7 @@ pub returns : goal.returns
 returns c =
     let k = c.args.book.now in
     let found = c.in_ok-i.ensures in
-    let f = right_fillable k c.in_ok-i.i found.0 _ _ c.find_rule.new.bindings c.parts.ensures c.right.ensures
+    let f = right_fillable k c.in_ok-i.i found.0 _ _ c.find_rule.new.bindings c.parts.ensures c.rule.ensures.right
     (right_bound k c.args.store.now c.args.p c.requires.0 c.in_ok-i.i found.0 c.find_rule.new.bindings found.1) in
     let made = c.row_instance.ensures _ f in
     record {

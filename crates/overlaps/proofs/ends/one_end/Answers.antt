@@ -9,7 +9,7 @@ use Rattle.overlaps.proofs.ends.one_end.Goals as goal
 
 pub results_meet-requires-clause-k_bound : goal.results_meet-requires-clause-k_bound
 results_meet-requires-clause-k_bound c =
-    omega (arith, ap length c.left.ensures, row_length (rule_in c.args.book.now c.pairs.i).left)
+    omega (arith, ap length c.rule.ensures.left, row_length (rule_in c.args.book.now c.pairs.i).left)
 
 pub loop-k-preserved : goal.loop-k-preserved
 loop-k-preserved c =
@@ -29,7 +29,7 @@ loop-j-preserved c =
     record {
       idle = idle_then c.loop-j.invariant.idle c.loop-k.invariant.idle;
       joined = joined_symbols b c.pairs.i c.loop-j.j c.loop-k.k
-          (omega (arith, ap length c.left.ensures, row_length (rule_in b c.pairs.i).left)) c.loop-k.invariant.joined;
+          (omega (arith, ap length c.rule.ensures.left, row_length (rule_in b c.pairs.i).left)) c.loop-k.invariant.joined;
       none = c.loop-k.invariant.none;
     }
 

@@ -12,15 +12,15 @@ overflow_mul-from c =
 
 pub returns-then-not-same_sign : goal.returns-then-not-same_sign
 returns-then-not-same_sign c =
-    other_sign c.args.book.now c.requires.down c.args.i c.args.j c.args.k c.requires.i_in_bounds c.left-left.ensures c.left.ensures
+    other_sign c.args.book.now c.requires.down c.args.i c.args.j c.args.k c.requires.i_in_bounds c.rule.ensures.left c.rule-2.ensures.left
     (c.if-not-same_sign.ensures.fails refl)
 
 pub returns : goal.returns
 returns c =
-    overlap_is c.args.book.now c.requires.down c.args.i c.args.j c.args.k c.requires.i_in_bounds c.left-left.ensures c.left.ensures
+    overlap_is c.args.book.now c.requires.down c.args.i c.args.j c.args.k c.requires.i_in_bounds c.rule.ensures.left c.rule-2.ensures.left
     c.parts.ensures c.in_ok-to.to c.requires.k_bound (c.same_sign.ensures.holds c.if-not-same_sign.false) c.in_ok-to.ensures
 
 pub returns-in_err-to : goal.returns-in_err-to
 returns-in_err-to c = rw c.from_residual.ensures
-    (no_end c.args.book.now c.requires.down c.args.i c.args.j c.args.k c.requires.i_in_bounds c.left-left.ensures c.left.ensures
+    (no_end c.args.book.now c.requires.down c.args.i c.args.j c.args.k c.requires.i_in_bounds c.rule.ensures.left c.rule-2.ensures.left
     c.parts.ensures c.in_err-to.ensures)

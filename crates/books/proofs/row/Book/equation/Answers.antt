@@ -1,10 +1,16 @@
--- The sides stand where the layout says.
+-- The slices are cut out where the sides stand.
+use Rattle.std.proofs.Common.{refl, ◌∙◌}
 use Rattle.books.specs.Books.{sound_book_in}
-use Rattle.books.proofs.Bookish.{equation_at}
+use Rattle.books.proofs.Bookish.{equation_at, side_cut}
 use Rattle.books.proofs.row.Book.equation.Goals as goal
 
 pub returns : goal.returns
 returns c =
-    equation_at c.args.self.now (sound_book_in c.args.self.now) c.args.i c.requires
-    c.sides.result.left c.sides.result.right c.sides.result.end
-    c.sides.ensures.left c.sides.ensures.right c.sides.ensures.end
+    let k = c.args.self.now in
+    let there = equation_at k (sound_book_in k) c.args.i c.requires _ _ _ refl refl refl in
+    let cut = c.sides.ensures in
+    record {
+      left = cut.left ∙ side_cut k.words.now _ _ _ there.left;
+      right = cut.right ∙ side_cut k.words.now _ _ _ there.right;
+      stands = (_, _, _, there, cut);
+    }

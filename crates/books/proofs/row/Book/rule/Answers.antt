@@ -1,11 +1,17 @@
--- The sides stand where the layout says.
-use Rattle.books.specs.Books.{sound_book_in}
-use Rattle.books.proofs.Bookish.{rule_at}
+-- The slices are cut out where the sides stand.
+use Rattle.std.proofs.Common.{◌+◌, ◌*◌, ℕ, get_or, refl, subst, ◌∙◌}
+use Rattle.books.specs.Books.{sound_book_in, CutAt}
+use Rattle.books.proofs.Bookish.{rule_at, side_cut}
 use Rattle.books.proofs.row.Book.rule.Goals as goal
 
 pub returns : goal.returns
 returns c =
-    rule_at c.args.self.now (sound_book_in c.args.self.now) c.args.i c.requires
-    c.sides.result.left c.sides.result.right c.sides.result.end
-    (rw (← c.equations.ensures) c.sides.ensures.left) (rw (← c.equations.ensures) c.sides.ensures.right)
-    (rw (← c.equations.ensures) c.sides.ensures.end)
+    let k = c.args.self.now in
+    let there = rule_at k (sound_book_in k) c.args.i c.requires _ _ _ refl refl refl in
+    let cut = subst (λ (n : ℕ). CutAt k (get_or k.layout.starts (2 * (n + c.args.i)) 0) (get_or k.layout.starts (2 * (n + c.args.i) + 1) 0)
+    (get_or k.layout.starts (2 * (n + c.args.i) + 2) 0) c.sides.result) c.equations.ensures c.sides.ensures in
+    record {
+      left = cut.left ∙ side_cut k.words.now _ _ _ there.left;
+      right = cut.right ∙ side_cut k.words.now _ _ _ there.right;
+      stands = (_, _, _, there, cut);
+    }

@@ -5,11 +5,11 @@ use Rattle.ways.proofs.walk.Walk.begin.Goals as goal
 
 pub read-requires-clause-row : goal.read-requires-clause-row
 read-requires-clause-row c =
-    (_, left_row c.args.self.now.book.now c.args.i c.requires c.left-left.result.now c.left-left.ensures)
+    (_, left_row c.args.self.now.book.now c.args.i c.requires _ c.rule.ensures.left)
 
 pub read-requires-clause-room : goal.read-requires-clause-room
 read-requires-clause-room c =
-    let short = left_short c.args.self.now.book.now c.args.i c.requires c.left-left.result.now c.left-left.ensures in
+    let short = left_short c.args.self.now.book.now c.args.i c.requires _ c.rule.ensures.left in
     room_alone c.args.self.now c.truncate.new.self _ c.truncate.ensures (omega arith)
 
 pub returns : goal.returns
@@ -17,8 +17,7 @@ returns c =
     let w = c.args.self.now in
     let k = c.read.ensures.kept in
     let kept = kept_cut w c.truncate.new.self c.truncate.ensures c.read.new.self k.book k.ways k.store_lent k.roots_lent k.went in
-    let read = c.read.ensures.stacked _ (left_row w.book.now c.args.i c.requires c.left-left.result.now
-    c.left-left.ensures) in
+    let read = c.read.ensures.stacked _ (left_row w.book.now c.args.i c.requires _ c.rule.ensures.left) in
     record {
       ready = under_first w c.args.i c.requires c.truncate.new.self c.truncate.ensures.top c.read.new.self kept read;
       kept = kept;

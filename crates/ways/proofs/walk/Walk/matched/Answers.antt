@@ -18,7 +18,7 @@ match_pattern-requires c =
           _,
           _,
           left_pattern c.args.self.now.book.now c.args.self.now.store.now c.args.p c.args.q can c.args.i
-              c.requires.1 _ c.equation_left.ensures,
+              c.requires.1 _ c.equation.ensures.left,
         ),
       );
       bindings = (
@@ -33,7 +33,7 @@ returns-in_err-bindings c =
     let e = equation_in c.args.self.now.book.now c.args.i in
     let first = first_matched a e (term_in a c.args.p.0) (term_in a c.args.q.0) c.new.result c.new.ensures None
     (c.in_err-bindings.ensures _ _ (left_pattern c.args.self.now.book.now a c.args.p c.args.q c.requires.0 c.args.i c.requires.1 _
-    c.equation_left.ensures)) in
+    c.equation.ensures.left)) in
     left_fails a e (term_in a c.args.p.0) (term_in a c.args.q.0) first c.from_residual.result c.from_residual.ensures
 
 pub match_pattern-requires-2 : goal.match_pattern-requires-2
@@ -43,7 +43,7 @@ match_pattern-requires-2 c =
     let e = equation_in c.args.self.now.book.now c.args.i in
     let first = first_matched a e (term_in a c.args.p.0) (term_in a c.args.q.0) c.new.result c.new.ensures (Some c.in_ok-bindings.bindings)
     (c.in_ok-bindings.ensures _ _ (left_pattern c.args.self.now.book.now a c.args.p c.args.q can c.args.i c.requires.1 _
-    c.equation_left.ensures)) in
+    c.equation.ensures.left)) in
     record {
       pattern = (
         can.right,
@@ -51,7 +51,7 @@ match_pattern-requires-2 c =
           _,
           _,
           right_pattern c.args.self.now.book.now a c.args.p c.args.q can c.args.i c.requires.1 _
-              c.equation_right.ensures,
+              c.equation.ensures.right,
         ),
       );
       bindings = (first.full, first.inside);
@@ -64,7 +64,7 @@ returns c =
     let e = equation_in c.args.self.now.book.now c.args.i in
     let first = first_matched a e (term_in a c.args.p.0) (term_in a c.args.q.0) c.new.result c.new.ensures (Some c.in_ok-bindings.bindings)
     (c.in_ok-bindings.ensures _ _ (left_pattern c.args.self.now.book.now a c.args.p c.args.q can c.args.i c.requires.1 _
-    c.equation_left.ensures)) in
+    c.equation.ensures.left)) in
     both_matched a e (term_in a c.args.p.0) (term_in a c.args.q.0) c.in_ok-bindings.bindings first c.match_pattern-2.result
     (c.match_pattern-2.ensures _ _ (right_pattern c.args.self.now.book.now a c.args.p c.args.q can c.args.i c.requires.1 _
-    c.equation_right.ensures))
+    c.equation.ensures.right))

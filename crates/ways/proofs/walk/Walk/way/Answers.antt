@@ -22,14 +22,14 @@ is_held-requires-clause-row c =
     let w = c.args.self.now in
     let x = c.follow.new.self in
     let on = kept_then w c.begin.new.self x c.begin.ensures.kept c.follow.ensures.kept in
-    (_, right_row x.book.now c.args.i (rule_on w x on c.args.i c.requires) _ c.right-right.ensures)
+    (_, right_row x.book.now c.args.i (rule_on w x on c.args.i c.requires) _ c.rule.ensures.right)
 
 pub is_held-requires-clause-short : goal.is_held-requires-clause-short
 is_held-requires-clause-short c =
     let w = c.args.self.now in
     let x = c.follow.new.self in
     let on = kept_then w c.begin.new.self x c.begin.ensures.kept c.follow.ensures.kept in
-    right_short x.book.now c.args.i (rule_on w x on c.args.i c.requires) _ c.right-right.ensures
+    right_short x.book.now c.args.i (rule_on w x on c.args.i c.requires) _ c.rule.ensures.right
 
 pub returns-clause-kept : goal.returns-clause-kept
 returns-clause-kept c =
@@ -44,7 +44,7 @@ returns-clause-told c =
     let end = c.in_ok-end.end in
     let on = kept_then w c.begin.new.self x c.begin.ensures.kept c.follow.ensures.kept in
     let same = c.is_held.ensures.told _ (right_row x.book.now c.args.i
-    (rule_on w x on c.args.i c.requires) _ c.right-right.ensures) in
+    (rule_on w x on c.args.i c.requires) _ c.rule.ensures.right) in
     subst (WayTold w.book.now w.ways.now c.args.from c.args.count _) (sym c.then_some.ensures)
     (way_told w.book.now w.ways.now c.args.i _ c.begin.ensures.term c.args.from c.args.count _ end
     (followed_on w c.begin.new.self c.begin.ensures.kept c.args.from c.args.count _ _ (Some end) c.in_ok-end.ensures.told)
