@@ -57,6 +57,7 @@ fn sentence<D: Display + Drop>(
 }
 
 // What an answer on a book says, in plain words.
+// Stays a heap beside the book, as in `printing`.
 pub fn explanation(
     heap: Global,
     answer: Judged,

@@ -1,2 +1,1 @@
--- What the contracts of the command line cite.
-pub mod Requests
+-- What the command line asks for is said by its types.

@@ -1,8 +1,8 @@
 // What the programs are asked for on their command lines.
 #![tactic(auto)]
 
-ghost use Rattle.std.specs.Prelude.{◌≡◌, ◌≤◌, IfOk};
-ghost use Rattle.arguments.specs.Requests.{Within};
+ghost use Rattle.std.specs.Prelude.{◌≤◌, IfOk};
+ghost use Rattle.arguments.specs.declared.TheConstants.{MOST_WORK};
 
 mod program;
 
@@ -41,6 +41,7 @@ pub struct Options<'a> {
     pub book: Option<Input<'a>>,
     // the pairs of terms that `tell` compares
     pub pairs: Option<Input<'a>>,
+    pub ghost within: { work ≤ MOST_WORK },
 }
 
 #[derive(Clone, Copy)]
@@ -103,7 +104,7 @@ fn named_input(word: &str) -> Result<Input<'_>, Refusal<'_>> {
 
 // The number of work words that the argument writes, if these fit.
 fn work_words(argument: Option<&String>) -> Result<usize, Refusal<'_>>
-    ensures { IfOk result (λ n. n ≤ 851968) }
+    ensures { IfOk result (λ n. n ≤ MOST_WORK) }
 {
     let digits = argument.ok_or(Refusal::NoNumber)?.as_str();
     match digits.parse::<usize>() {
@@ -115,9 +116,7 @@ fn work_words(argument: Option<&String>) -> Result<usize, Refusal<'_>>
 // Stays with the program as a parameter, here and below: it says how many files there may be, and all else is the same.
 impl<'a> Options<'a> {
     // Takes one more file, if the program has use for it.
-    fn add_file(&mut self, program: Program, word: &'a str) -> Result<(), Refusal<'a>>
-        ensures { self.new.work ≡ self.old.work }
-    {
+    fn add_file(&mut self, program: Program, word: &'a str) -> Result<(), Refusal<'a>> {
         let input = named_input(word)?;
         match (self.book, self.pairs, program) {
             (None, _, _) => self.book = Some(input),
@@ -142,9 +141,7 @@ impl<'a> Options<'a> {
 }
 
 // What the arguments ask the program for, its own name left out.
-pub fn read_arguments(program: Program, arguments: &[String]) -> Result<Asked<'_>, Refusal<'_>>
-    ensures { IfOk result Within }
-{
+pub fn read_arguments(program: Program, arguments: &[String]) -> Result<Asked<'_>, Refusal<'_>> {
     let mut options = Options {
         rows: false,
         work: MOST_WORK,

@@ -1,8 +1,6 @@
 // The programs, and how each starts: by its command line.
 ghost use Rattle.std.specs.Prelude.{◌≤◌};
 ghost use Rattle.std.specs.Process.{exit_status};
-ghost use Rattle.arguments.specs.Requests.{Within};
-ghost use Rattle.arguments.specs.declared.Asked.TheVariants.{Run};
 
 use crate::{Asked, Options, read_arguments};
 use std::alloc::AllocError;
@@ -49,7 +47,7 @@ fn start<F: FnOnce(Options<'_>) -> Result<(), Stopped>>(
     help: &str,
     work: F,
 ) -> Result<(), Stopped>
-    requires { (o : _) → Within (Run o) → F.pre work o }
+    requires { F.IsAlwaysCallable work }
 {
     let arguments: Vec<String> = env::args(rt)?.skip(1).collect(rt.alloc())?;
     match read_arguments(program, arguments.as_slice()) {
@@ -71,7 +69,7 @@ pub fn run<F: FnOnce(Options<'_>) -> Result<(), Stopped>>(
     help: &str,
     work: F,
 ) -> ExitCode
-    requires { (o : _) → Within (Run o) → F.pre work o }
+    requires { F.IsAlwaysCallable work }
     ensures { exit_status result ≤ 1 }
 {
     match start(rt, program, help, work) {

@@ -129,8 +129,6 @@ module _ (rs : List Eq) (low : ℕ) (st : Store) (q : Roots) (fr : Frames) (p : 
     honest = run1.honest;
     inside = record { fits = omega (arith, space.roots, o.cells, o.top); low = low_roots };
     framed = framed;
-    long = omega (arith, space.frames, k.depth, k.words.long);
-    fresh = omega (arith, k.fresh, k.depth, run1.fresh);
     focus = omega (arith, down, run1.focus);
     asked = subst (λ (ls : List ModelFrame). Asks (AskedFor rs st gr) ls t0) (sym frames_are) asked;
   }

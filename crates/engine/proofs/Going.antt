@@ -53,8 +53,6 @@ module _ (rs : List Eq) where
           low = λ k m. let x = run1.inside.low k m in omega (arith, h.longer);
         };
         framed = run1.framed;
-        long = run1.long;
-        fresh = run1.fresh;
         focus = l;
         asked = subst (λ (ks : List ModelFrame). Asks (AskedFor rs su fr) ks (term_in su (focus_place e))) (sym frames_holding)
             (asks_steps rs (AskedFor rs su fr) (frames_in (work st q fr)) (term_in st (focus_place c)) (term_in su (focus_place e))

@@ -156,8 +156,6 @@ module _ (b : Book) (low : ℕ) (st : Store) (q : Roots) (fr : Frames) (v : Plac
                 omega (arith, z, hold.longer, ready.running.inside.low j (omega (arith, cut.top)));
           };
           framed = framed;
-          long = omega (arith, ready.running.long, ap length pop.words, pop.depth);
-          fresh = pop.fresh;
           focus = comes_inside rs (sign x.sign (behind bs tv)) sv e comes;
           asked = subst (λ (ls : List ModelFrame). Asks (AskedFor rs sv gr) ls (term_in sv (focus_place e))) (sym frames_are) asked;
         }

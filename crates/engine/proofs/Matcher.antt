@@ -24,7 +24,7 @@ use Rattle.engine.specs.declared.types.Bindings.{Bindings}
 use Rattle.engine.specs.Matching.{bound, Agrees, term_or, put_in, AllInside, Bound, BoundNow, nothing}
 use Rattle.engine.specs.Matching.{Instance, Extended, MatchedOn, Pattern}
 use Rattle.engine.specs.Matching.{stacked, PlacesInside, Pushed, PartsPending}
-use Rattle.engine.specs.Matching.{MatchingWith, Matching, MatchesAll, Turned}
+use Rattle.engine.specs.Matching.{MatchingWith, Matching, Turned}
 use Rattle.engine.proofs.Pendings.{one_more, stacked_more, inside_below, inside_last}
 
 -- letters in terms behind terms
@@ -102,6 +102,12 @@ module _ (ps ws : List ℕ) (b0 : Bindings) (l t : Term) (st : Store) (a : ℕ) 
         ap (λ (k : ℕ). get_or ws k 0) (sym z) ∙ (sym (get_or-drop a ws 0 0) ∙ ap (λ (v : List ℕ). get_or v 0 0) e),
         sym (get_or-drop a ws 1 0) ∙ ap (λ (v : List ℕ). get_or v 1 0) e,
       )
+
+  -- before the end there is a symbol
+  pub no_turn : a < length ws → SymbolAt ws a None → Matching ps ws b0 l t st a q b → ⊥
+  no_turn more y (none1, m) = omega (arith, m.long, more)
+  no_turn more y (and1 (letter z) us, m) = let h = here_symbol (letter z) us m in omega (arith, y h.0, h.1)
+  no_turn more y (and1 (sign g vs) us, m) = let h = here_symbol (sign g vs) us m in omega (arith, y h.0, h.1)
 
   words_next : (u : Term) (us : Terms) → MatchingWith ps ws b0 l t st a q b (and1 u us) →
       drop (a + 2) ws ≡ rows (opened u us)
@@ -287,18 +293,9 @@ module _ (ps ws : List ℕ) (b0 : Bindings) (l t : Term) (st : Store) (a : ℕ) 
         let e : g ≡ f = sym (here_symbol (sign g vs) us m).2 ∙ y.2 in
         sign_with f r2 res h vs us (subst (λ (k : ℕ). MatchingWith ps ws b0 l t st a q b (and1 (sign k vs) us)) e m)
 
-    pub no_turn : SymbolAt ws a None → Matching ps ws b0 l t st a q b → ⊥
-    no_turn y (none1, m) = no_patterns m
-    no_turn y (and1 (letter z) us, m) = let h = here_symbol (letter z) us m in omega (arith, y h.0, h.1)
-    no_turn y (and1 (sign g vs) us, m) = let h = here_symbol (sign g vs) us m in omega (arith, y h.0, h.1)
-
 -- the next place, and those below it
 pub next_place : (q r : List Place) (o : Maybe Place) (p : Place) → q ≡ r ++ option_to_list o → o ≡ Some p → q ≡ r ++ p ∷ []
 next_place q r o p h e = h ∙ ap (λ (x : Maybe Place). r ++ option_to_list x) e
-
-pub of_place : (ws : List ℕ) (b0 : Bindings) (st : Store) (x y : Place) (a : ℕ) (q : List Place) (b : Bindings) → x ≡ y →
-    MatchesAll ws b0 st x a q b → MatchesAll ws b0 st y a q b
-of_place ws b0 st x y a q b e = subst (λ (p : Place). MatchesAll ws b0 st p a q b) e
 
 -- nothing is bound at first
 none_bound : {A : Type 0} (d : A) (n x : ℕ) → get_or (replicate n d) x d ≡ d

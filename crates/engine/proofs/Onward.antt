@@ -143,8 +143,6 @@ module _ (rs : List Eq) (low : ℕ) (st : Store) (q : Roots) (fr : Frames) (v : 
       honest = run1.honest;
       inside = record { fits = omega (arith, run1.inside.fits, s.long, s.top); low = low_roots };
       framed = framed;
-      long = omega (arith, run1.long, k.depth, k.words.long);
-      fresh = omega (arith, k.fresh, k.depth);
       focus = next_inside;
       asked = subst (λ (ls : List ModelFrame). Asks (AskedFor rs st gr) ls tn) (sym frames_are) asked;
     }

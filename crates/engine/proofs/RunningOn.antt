@@ -169,8 +169,6 @@ module _ (b : Book) (w0 : Work) (can : Startable b w0) (q : Roots) (cut : CutTo 
         low = λ k l. omega (arith, root_same k, can.inside.low k (omega (arith, cut.top)));
       };
       framed = subst (λ (n : ℕ). Framed fr.words.now n q.top low) (sym none.depth) cut.top;
-      long = omega (arith, none.depth);
-      fresh = omega (arith, none.fresh, none.depth);
       focus = omega (arith, at, can.inside.low (q0.top - 1) (omega (arith, can.some)));
       asked = subst (λ (ks : List ModelFrame). Asks (AskedFor (told b).rules st fr) ks (term_in st p.0)) (sym no_frames) tt;
     };

@@ -189,8 +189,6 @@ module _ (rs : List Eq) (low : ℕ) (st : Store) (q : Roots) (fr : Frames) (c : 
                 (subst (λ (e : ℕ). Framed gr.words.now fr.depth e low) (sym k.top)
                 (framed_same fr.words.now gr.words.now fr.depth q.top low
                 (λ e l. ap (λ (ws : List ℕ). frame_at ws e) k.forgotten.words) run1.framed));
-            long = omega (arith, ap length k.forgotten.words, k.forgotten.depth, run1.long);
-            fresh = omega (arith, k.forgotten.fresh, k.forgotten.depth);
             focus = omega (arith, place_at c o, k.result.0);
             asked = subst (λ (ks : List ModelFrame). Asks (AskedFor rs su gr) ks (term_in su (focus_place (focus_at c o))))
                 (sym (frames_are k))

@@ -1,5 +1,5 @@
 -- What each turn needs and comes to, as its parts say it.
-use Rattle.std.proofs.Common.{◌≡◌, ℕ, suc, ◌+◌, ◌-◌, ◌<◌, ◌≤◌, List, Some, sym, refl, ap, ◌∙◌, subst, arith}
+use Rattle.std.proofs.Common.{◌≡◌, ℕ, suc, ◌+◌, ◌-◌, ◌<◌, List, Some, sym, refl, ap, ◌∙◌, subst, arith}
 use Rattle.rewriting.specs.Terms.{Term, letter, sign, none1}
 use Rattle.rewriting.specs.Rules.{Eq, Steps, Done}
 use Rattle.rewriting.specs.Order.{rank}
@@ -63,10 +63,7 @@ module _ (b : Book) (low : ℕ) (st : Store) (q : Roots) (fr : Frames) where
     pub top_frame : TopFrame (work st q fr) top
     top_frame =
         let w = framed_more rs low st q fr v ready.running pos in
-        record { some = pos; long = ready.running.long; is = refl; few = w.0; enough = w.2; fits = ready.running.inside.fits }
-
-    pub done_few : top.done ≤ top.others
-    done_few = (framed_more rs low st q fr v ready.running pos).1
+        record { some = pos; is = refl; few = w.0; enough = w.2; fits = ready.running.inside.fits }
 
     top_asked : AskedFor rs st fr (fr.depth - 1) (term_in st v.0)
     top_asked =

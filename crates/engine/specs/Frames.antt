@@ -65,7 +65,6 @@ pub record GoneOn (q : Frames) (p : Place) (r : Frames) : Type 0 where
 pub record Popped (q r : Frames) : Type 0 where
   pub words : r.words.now ≡ q.words.now
   pub depth : r.depth + 1 ≡ q.depth
-  pub fresh : r.fresh ≤ r.depth
   pub later : (d : ℕ) → r.fresh ≤ d → d < r.depth → q.fresh ≤ d
 
 -- what the top frame asked for, if that is known

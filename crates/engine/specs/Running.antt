@@ -1,5 +1,5 @@
 -- Where the machine stands: the state of the model that the store, its roots and the frames say, and what stays true of them.
-use Rattle.std.specs.Prelude.{◌≡◌, ℕ, zero, suc, ◌+◌, ◌-◌, ◌*◌, ◌<◌, ◌≤◌, true, List, [], ◌∷◌, length, Some}
+use Rattle.std.specs.Prelude.{◌≡◌, ℕ, zero, suc, ◌+◌, ◌-◌, ◌<◌, ◌≤◌, true, List, [], ◌∷◌, length, Some}
 use Rattle.rewriting.specs.Terms.{Term, Terms, none1, and1}
 use Rattle.rewriting.specs.Rules.{Eq, Steps, Done}
 use Rattle.rewriting.specs.Machine.{frame, eval, back, State, state, around}
@@ -72,8 +72,6 @@ pub record Running (rs : List Eq) (low : ℕ) (w : Work) (c : Focus) : Type 0 wh
   pub honest : Honest rs w.store
   pub inside : Inside w.store w.roots
   pub framed : Framed w.frames.words.now w.frames.depth w.roots.top low
-  pub long : 4 * w.frames.depth ≤ length w.frames.words.now
-  pub fresh : w.frames.fresh ≤ w.frames.depth
   pub focus : focus_place c < w.store.count
   pub asked : Asks (AskedFor rs w.store w.frames) (frames_in w) (term_in w.store (focus_place c))
 

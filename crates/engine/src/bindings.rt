@@ -1,6 +1,6 @@
 // What is put for letters.
 // Stays in the contracts that a letter is below 32: it is a fact of an index.
-ghost use Rattle.std.specs.Prelude.{◌≡◌, ◌<◌, length, replicate, None};
+ghost use Rattle.std.specs.Prelude.{◌≡◌, ◌<◌, replicate, None};
 ghost use Rattle.engine.specs.Matching.{bound, BoundNow};
 
 use crate::types::Bindings;
@@ -26,12 +26,6 @@ impl Bindings {
         requires { x < 32 }
         ensures { BoundNow self.old x q self.new result }
     {
-        match self.get(x) {
-            Some(p) => p == q,
-            None => {
-                self.at[x as usize] = Some(q);
-                true
-            }
-        }
+        *self.at[x as usize].get_or_insert(q) == q
     }
 }

@@ -20,11 +20,7 @@ fn asked_word(asked: Option<Place>) -> u32
 fn asked_place(word: u32) -> Option<Place>
     ensures { result ≡ asked_in word }
 {
-    if word == 0 {
-        None
-    } else {
-        Some(Place(word as usize - 1))
-    }
+    word.checked_sub(1).map(|i| Place(i as usize))
 }
 
 impl<'a> Frames<'a> {
@@ -52,32 +48,32 @@ impl Frames<'_> {
     }
 
     fn put(&mut self, d: usize, frame: Frame)
-        requires { (4 * d + 4 ≤ length self.old.words.now) × ((frame.others ≤ 3) × (frame.done ≤ 3)) }
+        requires { 4 * d + 4 ≤ length self.old.words.now }
         ensures { FramePut self.old d frame self.new }
     {
         self.words[4 * d] = frame.sign;
-        self.words[4 * d + 1] = frame.others as u32;
-        self.words[4 * d + 2] = frame.done as u32;
+        self.words[4 * d + 1] = frame.others;
+        self.words[4 * d + 2] = frame.done;
         self.words[4 * d + 3] = asked_word(frame.asked);
     }
 
     // The top frame.
     pub fn top(&self) -> Frame
-        requires { (0 < self.now.depth) × (4 * self.now.depth ≤ length self.now.words.now) }
+        requires { 0 < self.now.depth }
         ensures { result ≡ frame_at self.now.words.now (self.now.depth - 1) }
     {
         let d = self.depth - 1;
         Frame {
             sign: self.words[4 * d],
-            others: self.words[4 * d + 1] as usize,
-            done: self.words[4 * d + 2] as usize,
+            others: self.words[4 * d + 1],
+            done: self.words[4 * d + 2],
             asked: asked_place(self.words[4 * d + 3]),
         }
     }
 
     // What the top frame asked for, if it is known.
     pub fn asked(&self) -> Option<Place>
-        requires { (0 < self.now.depth) × (4 * self.now.depth ≤ length self.now.words.now) }
+        requires { 0 < self.now.depth }
         ensures { AskedTop self.now result }
     {
         if self.fresh < self.depth {
@@ -88,8 +84,8 @@ impl Frames<'_> {
     }
 
     // A frame for a sign whose first part, at the place that is asked for, is worked at.
-    pub fn push(&mut self, sign: u32, others: usize, asked: Place)
-        requires { (4 * (self.old.depth + 1) ≤ length self.old.words.now) × (others ≤ 3) }
+    pub fn push(&mut self, sign: u32, others: u32, asked: Place)
+        requires { 4 * (self.old.depth + 1) ≤ length self.old.words.now }
         ensures { FramePushed self.old sign others asked self.new }
     {
         let frame = Frame {
@@ -104,7 +100,7 @@ impl Frames<'_> {
 
     // One more part of the top frame is done, and the next is asked for.
     pub fn go_on(&mut self, asked: Place)
-        requires depth { (0 < self.old.depth) × (4 * self.old.depth ≤ length self.old.words.now) }
+        requires some { 0 < self.old.depth }
         requires done { (frame_at self.old.words.now (self.old.depth - 1)).done < 3 }
         ensures { GoneOn self.old asked self.new }
     {

@@ -1,5 +1,5 @@
 // Normal forms: the machine runs until the term is brought to its normal form, or space is wanting.
-ghost use Rattle.std.specs.Prelude.{◌≡◌, ℕ, ◌+◌, ◌-◌, ◌<◌, ◌≤◌};
+ghost use Rattle.std.specs.Prelude.{ℕ};
 ghost use Rattle.engine.specs.Turning.{Ready, CanTurn};
 ghost use Rattle.engine.specs.Spacing.{Stepped};
 ghost use Rattle.engine.specs.Normal.{Normalized, Startable};

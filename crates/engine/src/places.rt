@@ -12,7 +12,7 @@ use store::{Node, Place, Store};
 // Stays beside the store's: that one fills roots and may refuse, and this one fills places and may not.
 fn push_parts(pending: &mut Pending, store: &Store, p: Place, n: usize)
     requires parts { (p.0 < store.now.count) × ((arity_in store.now p.0 ≡ n) × (n ≤ 4)) }
-    requires n_bound { array_vec_len pending.old + n ≤ 36 }
+    requires room { array_vec_len pending.old + n ≤ 36 }
     requires places_inside { PlacesInside store.now pending.old.items }
     ensures { Pushed store.now pending.old.items (parts_in store.now p.0 n) pending.new.items }
 {
@@ -26,7 +26,7 @@ fn push_parts(pending: &mut Pending, store: &Store, p: Place, n: usize)
 // Stays a bool: a sign is f or is another, and that is all there is to say.
 pub fn open(pending: &mut Pending, store: &Store, p: Place, f: u32) -> bool
     requires inside { p.0 < store.now.count }
-    requires len_bound { array_vec_len pending.old + 4 ≤ 36 }
+    requires room { array_vec_len pending.old + 4 ≤ 36 }
     requires places_inside { PlacesInside store.now pending.old.items }
     ensures { PartsPending store.now p f pending.old.items pending.new.items result }
 {

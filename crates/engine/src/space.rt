@@ -1,5 +1,5 @@
 // Space for the next turn of the machine: slots, cells for roots and words for a frame.
-ghost use Rattle.std.specs.Prelude.{◌≡◌, ℕ, ◌+◌, ◌-◌, ◌*◌, ◌<◌, ◌≤◌};
+ghost use Rattle.std.specs.Prelude.{◌≡◌, ℕ, ◌+◌, ◌<◌};
 ghost use Rattle.store.specs.Stores.{Inside};
 ghost use Rattle.store.specs.Roots.{HasRoots};
 ghost use Rattle.engine.specs.Running.{Running, focus_place};

@@ -1,8 +1,8 @@
 // Turns of the machine that brings terms to normal form.
 // Stays in the contracts that a turn can be taken: it relates a book, the work words and a focus, and each turn changes all but the book.
 // Stays in the contracts that there is space for a turn: it is so only after it was seen to, and the turn uses it up.
-ghost use Rattle.std.specs.Prelude.{◌≡◌, ℕ, ◌+◌, ◌-◌, ◌*◌, ◌<◌, ◌≤◌, length};
-ghost use Rattle.rewriting.specs.Rules.{Done, Steps};
+ghost use Rattle.std.specs.Prelude.{◌≡◌, ◌+◌, ◌<◌, ◌≤◌};
+ghost use Rattle.rewriting.specs.Rules.{Done};
 ghost use Rattle.rewriting.specs.Machine.{Still};
 ghost use Rattle.rewriting.specs.Terms.{sign};
 ghost use Rattle.store.specs.Stores.{term_in, arity_in, parts_in};
@@ -11,7 +11,7 @@ ghost use Rattle.store.specs.Roots.{HasRoots};
 ghost use Rattle.books.specs.Books.{told};
 ghost use Rattle.engine.specs.declared.types.Focus.TheVariants.{Eval, Back};
 ghost use Rattle.engine.specs.Rewriting.{Rewritable};
-ghost use Rattle.engine.specs.Running.{Honest, Holding};
+ghost use Rattle.engine.specs.Running.{Honest};
 ghost use Rattle.engine.specs.Turning.{Advanced, Applied, OthersPushed, PartsGathered, TurnsFrom, CanTurn, TopFrame, SpaceForTurn};
 
 use crate::rules::rewrite;
@@ -23,7 +23,8 @@ use store::{Node, Place, Roots, Store};
 
 // What the term at p comes to at once: its normal form if that is known, or what a rule makes of it at its top.
 fn advance(book: &Book, store: &mut Store, p: Place) -> Option<Focus>
-    requires rewritable { (Rewritable book.now store.old p) × (store.old.count + 32 ≤ store.old.limit) }
+    requires rewritable { Rewritable book.now store.old p }
+    requires slots { store.old.count + 32 ≤ store.old.limit }
     requires honest { Honest (told book.now).rules store.old }
     ensures { Advanced (told book.now).rules store.old p store.new result }
 {
@@ -39,7 +40,8 @@ fn advance(book: &Book, store: &mut Store, p: Place) -> Option<Focus>
 
 // The same for a term that is a normal form if no rule can be used at its top.
 fn apply(book: &Book, store: &mut Store, p: Place) -> Focus
-    requires rewritable { (Rewritable book.now store.old p) × (store.old.count + 32 ≤ store.old.limit) }
+    requires rewritable { Rewritable book.now store.old p }
+    requires slots { store.old.count + 32 ≤ store.old.limit }
     requires honest { Honest (told book.now).rules store.old }
     requires done { Still (told book.now).rules (term_in store.old p.0) →
         Done (told book.now).rules (term_in store.old p.0) }
@@ -85,14 +87,15 @@ fn gather_parts(roots: &Roots, from: usize, n: usize, v: Place) -> [Place; 4]
 impl Work<'_> {
     // To the first of n + 1 parts.
     fn go_in(&mut self, p: Place, f: u32, n: usize) -> Focus
-        requires n_bound { (n ≤ 3) × ((arity_in self.old.store p.0 ≡ n + 1) × (p.0 < self.old.store.count)) }
-        requires p_value { term_in self.old.store p.0 ≡ sign f (parts_in self.old.store p.0 (n + 1)) }
-        requires space_for_turn { SpaceForTurn self.old }
+        requires inside { p.0 < self.old.store.count }
+        requires arity { (n ≤ 3) × (arity_in self.old.store p.0 ≡ n + 1) }
+        requires sign { term_in self.old.store p.0 ≡ sign f (parts_in self.old.store p.0 (n + 1)) }
+        requires space { SpaceForTurn self.old }
         ensures { (k : _) → TurnsFrom k self.old (Eval p) self.new result }
     {
         let first = self.store.part(p, 0);
         push_others(&self.store, &mut self.roots, p, n);
-        self.frames.push(f, n, first);
+        self.frames.push(f, n as u32, first);
         Focus::Eval(first)
     }
 
@@ -101,7 +104,7 @@ impl Work<'_> {
         requires { (TopFrame self.old frame) × (frame.done < frame.others) }
         ensures { (k : _) → TurnsFrom k self.old (Back v) self.new result }
     {
-        let at = self.roots.top - frame.others + frame.done;
+        let at = self.roots.top - frame.others as usize + frame.done as usize;
         let next = self.roots.place(at);
         self.roots.set(at, v);
         self.frames.go_on(next);
@@ -111,13 +114,14 @@ impl Work<'_> {
     // Back to the sign, v being the last of its parts.
     fn go_out(&mut self, book: &Book, frame: Frame, v: Place) -> Focus
         requires can_turn { CanTurn book.now self.old (Back v) }
-        requires count_bound { (self.old.store.count + 33 ≤ self.old.store.limit) ×
-            ((TopFrame self.old frame) × (frame.done ≡ frame.others)) }
+        requires slots { self.old.store.count + 33 ≤ self.old.store.limit }
+        requires frame { (TopFrame self.old frame) × (frame.done ≡ frame.others) }
         ensures { TurnsFrom book.now self.old (Back v) self.new result }
     {
-        let from = self.roots.top - frame.others;
-        let parts = gather_parts(&self.roots, from, frame.others, v);
-        let p = self.store.share_sign(frame.sign, parts, frame.others + 1);
+        let others = frame.others as usize;
+        let from = self.roots.top - others;
+        let parts = gather_parts(&self.roots, from, others, v);
+        let p = self.store.share_sign(frame.sign, parts, others + 1);
         self.roots.truncate(from);
         self.frames.pop();
         apply(book, &mut self.store, p)
@@ -126,7 +130,8 @@ impl Work<'_> {
     // A normal form v goes to the top frame.
     fn go_back(&mut self, book: &Book, v: Place) -> Focus
         requires can_turn { CanTurn book.now self.old (Back v) }
-        requires count_bound { (self.old.store.count + 33 ≤ self.old.store.limit) × (0 < self.old.frames.depth) }
+        requires slots { self.old.store.count + 33 ≤ self.old.store.limit }
+        requires some { 0 < self.old.frames.depth }
         ensures { TurnsFrom book.now self.old (Back v) self.new result }
     {
         let frame = self.frames.top();
@@ -139,7 +144,8 @@ impl Work<'_> {
     // The same, and v is noted as the normal form of what the frame asked for.
     pub(crate) fn back(&mut self, book: &Book, v: Place) -> Focus
         requires can_turn { CanTurn book.now self.old (Back v) }
-        requires count_bound { (self.old.store.count + 33 ≤ self.old.store.limit) × (0 < self.old.frames.depth) }
+        requires slots { self.old.store.count + 33 ≤ self.old.store.limit }
+        requires some { 0 < self.old.frames.depth }
         ensures { TurnsFrom book.now self.old (Back v) self.new result }
     {
         let asked = self.frames.asked();
@@ -152,9 +158,10 @@ impl Work<'_> {
 
     // A turn at the sign f with n + 1 parts.
     fn enter(&mut self, book: &Book, p: Place, f: u32, n: usize) -> Focus
-        requires can_turn { (CanTurn book.now self.old (Eval p)) × (SpaceForTurn self.old) }
-        requires n_bound { (n ≤ 3) × (arity_in self.old.store p.0 ≡ n + 1) }
-        requires p_value { term_in self.old.store p.0 ≡ sign f (parts_in self.old.store p.0 (n + 1)) }
+        requires can_turn { CanTurn book.now self.old (Eval p) }
+        requires space { SpaceForTurn self.old }
+        requires arity { (n ≤ 3) × (arity_in self.old.store p.0 ≡ n + 1) }
+        requires sign { term_in self.old.store p.0 ≡ sign f (parts_in self.old.store p.0 (n + 1)) }
         ensures { TurnsFrom book.now self.old (Eval p) self.new result }
     {
         if let Some(focus) = advance(book, &mut self.store, p) {
@@ -165,7 +172,8 @@ impl Work<'_> {
 
     // A turn at the term at p, which is to be brought to normal form.
     pub(crate) fn eval(&mut self, book: &Book, p: Place) -> Focus
-        requires { (CanTurn book.now self.old (Eval p)) × (SpaceForTurn self.old) }
+        requires can_turn { CanTurn book.now self.old (Eval p) }
+        requires space { SpaceForTurn self.old }
         ensures { TurnsFrom book.now self.old (Eval p) self.new result }
     {
         match self.store.view(p) {

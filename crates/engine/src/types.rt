@@ -1,4 +1,6 @@
 // The types: what is put for letters, lists of places, the stack of frames with what is worked at, and the want of room.
+ghost use Rattle.std.specs.Prelude.{◌*◌, ◌≤◌, length};
+
 use arrayvec::ArrayVec;
 use store::Place;
 
@@ -20,8 +22,8 @@ pub type Built = ArrayVec<Place, 32>;
 #[derive(Clone, Copy, Debug, PartialEq, Eq)]
 pub struct Frame {
     pub sign: u32,
-    pub others: usize,
-    pub done: usize,
+    pub others: u32,
+    pub done: u32,
     pub asked: Option<Place>,
 }
 
@@ -32,6 +34,8 @@ pub struct Frames<'a> {
     pub words: &'a mut [u32],
     pub depth: usize,
     pub fresh: usize,
+    pub ghost fits: { 4 * depth ≤ length words.now },
+    pub ghost within: { fresh ≤ depth },
 }
 
 // What is worked at: a term to be brought to normal form, or a normal form that goes to the top frame.

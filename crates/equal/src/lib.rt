@@ -1,7 +1,7 @@
 // Judging books of equations and rules, and comparing terms by a book that settles its equations.
 #![tactic(auto)]
 
-ghost use Rattle.std.specs.Prelude.{◌+◌, length};
+ghost use Rattle.std.specs.Prelude.{length};
 ghost use Rattle.equal.specs.Promises.{JudgedPost, ToldPost};
 
 mod comparing;

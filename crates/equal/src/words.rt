@@ -1,5 +1,5 @@
 // How many work words are wanted.
-ghost use Rattle.std.specs.Prelude.{◌≡◌, ◌+◌};
+ghost use Rattle.std.specs.Prelude.{◌+◌};
 ghost use Rattle.rewriting.specs.Answers.{Tells};
 ghost use Rattle.equal.specs.Promises.{TooFew};
 

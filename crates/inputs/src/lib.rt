@@ -142,6 +142,7 @@ fn read_source(rt: &HostRuntime, input: Input<'_>, rows: bool) -> Result<Source,
 }
 
 // Reads the book that the program was asked for; where that fails, it is told why.
+// Stays with the program as a parameter, as in `complain`.
 pub fn read_book(
     rt: &HostRuntime,
     program: Program,

@@ -91,7 +91,7 @@ fn continues(kind: Kind, b: u8) -> bool {
 pub(crate) fn find_from<F: FnMut(&u8) -> bool>(text: &[u8], from: usize, found: F) -> usize
     requires { (state : F) (b : _) → F.pre state b }
     ensures within { result ≤ length text.now }
-    ensures on { from ≤ length text.now → from ≤ result }
+    ensures forward { from ≤ length text.now → from ≤ result }
 {
     let from = from.min(text.len());
     let rest = &text[from..];
@@ -101,7 +101,7 @@ pub(crate) fn find_from<F: FnMut(&u8) -> bool>(text: &[u8], from: usize, found: 
 // The place of the first byte at or after `from` that stands neither in blanks nor in a comment.
 fn skip_blanks(text: &[u8], from: usize) -> usize
     ensures within { result ≤ length text.now }
-    ensures on { from ≤ length text.now → from ≤ result }
+    ensures forward { from ≤ length text.now → from ≤ result }
 {
     let mut comment = false;
     find_from(text, from, |b| {

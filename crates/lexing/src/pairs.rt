@@ -1,5 +1,6 @@
 // Pairs of terms, one a line, as rows of decimal words with `|` between them.
 ghost use Rattle.std.specs.Prelude.{◌≤◌, vec_len};
+ghost use Rattle.lexing.specs.declared.pairs.TheConstants.{MOST_TERM};
 
 use crate::cursor::Cursor;
 use crate::fault::{Error, Expected};
@@ -25,6 +26,8 @@ pub enum Line {
 pub struct Pair {
     pub one: Vec<u32>,
     pub other: Vec<u32>,
+    pub ghost one_short: { vec_len one ≤ MOST_TERM },
+    pub ghost other_short: { vec_len other ≤ MOST_TERM },
 }
 
 impl Pair {
@@ -35,36 +38,33 @@ impl Pair {
             other: Vec::with_capacity(heap, MOST_TERM)?,
         })
     }
-}
 
-// Reads the two rows of a line. Any words will do.
-// Stays beside `parse_pair` of notation: how a term is read, what stands between, and how one too long is known all differ.
-pub fn read_pair(heap: Global, line: &[u8], pair: &mut Pair) -> Result<Line, Error>
-    ensures one { vec_len pair.new.one ≤ MOST_TERM }
-    ensures other { vec_len pair.new.other ≤ MOST_TERM }
-{
-    pair.one.clear();
-    pair.other.clear();
-    let mut cursor = Cursor::new(heap, line, 0);
-    if cursor.token.is(Kind::End) {
-        return Ok(Line::Blank);
+    // Reads the two rows of a line. Any words will do.
+    // Stays beside `parse_pair` of notation: how a term is read, what stands between, and how one too long is known all differ.
+    pub fn read(&mut self, heap: Global, line: &[u8]) -> Result<Line, Error> {
+        self.one.clear();
+        self.other.clear();
+        let mut cursor = Cursor::new(heap, line, 0);
+        if cursor.token.is(Kind::End) {
+            return Ok(Line::Blank);
+        }
+        cursor.add_numbers(&mut self.one, MOST_TERM)?;
+        if self.one.len() == MOST_TERM {
+            return Ok(Line::Long);
+        }
+        if cursor.token.word != b"|".as_slice() {
+            return Err(cursor.fault(Expected::Words("a number of at most 32 bits, or `|`")));
+        }
+        cursor.advance();
+        cursor.add_numbers(&mut self.other, MOST_TERM)?;
+        if self.other.len() == MOST_TERM {
+            return Ok(Line::Long);
+        }
+        if !cursor.token.is(Kind::End) {
+            return Err(cursor.fault(Expected::Words(
+                "a number of at most 32 bits, or the end of the line",
+            )));
+        }
+        Ok(Line::Pair)
     }
-    cursor.add_numbers(&mut pair.one, MOST_TERM)?;
-    if pair.one.len() == MOST_TERM {
-        return Ok(Line::Long);
-    }
-    if cursor.token.word != b"|".as_slice() {
-        return Err(cursor.fault(Expected::Words("a number of at most 32 bits, or `|`")));
-    }
-    cursor.advance();
-    cursor.add_numbers(&mut pair.other, MOST_TERM)?;
-    if pair.other.len() == MOST_TERM {
-        return Ok(Line::Long);
-    }
-    if !cursor.token.is(Kind::End) {
-        return Err(cursor.fault(Expected::Words(
-            "a number of at most 32 bits, or the end of the line",
-        )));
-    }
-    Ok(Line::Pair)
 }

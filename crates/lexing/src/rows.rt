@@ -1,4 +1,5 @@
 // Rows as text: the decimal words of a book on one line, and those of its ways on the next.
+// Stays a text with a place, as in the lexer: faults tell where a word stands in the whole text.
 ghost use Rattle.std.specs.Prelude.{◌≤◌, length, IfOk, vec_len};
 
 use crate::cursor::Cursor;

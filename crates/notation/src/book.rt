@@ -63,11 +63,11 @@ pub fn parse(heap: Global, text: &str) -> Result<Book, Error>
     let sides = parser.sections(signs)?;
     let words = book_row(heap, signature.signs.as_slice(), &sides)?;
     let end = parser.cursor;
-    match read_both(words.as_slice(), sides.ways.as_slice()) {
+    match read_both(words.as_slice(), sides.ways.words.as_slice()) {
         Some(layout) if layout.signs() == signature.signs.len() => Ok(Book {
             signature,
             words,
-            ways: sides.ways,
+            ways: sides.ways.words,
             layout,
         }),
         _ => Err(end.fault(Expected::Words("a book"))),

@@ -1,5 +1,4 @@
 // The sections of names: signs, with their parts and ranks, and letters.
-// Stays loops that count by hand: each ends with the text, and the count is a sign's number or is held against the most.
 ghost use Rattle.std.specs.Prelude.{◌≤◌, IfOk};
 
 use crate::parser::entry_comes;
@@ -118,6 +117,7 @@ impl<'a> Names<'a> {
         }
         self.sign(0)?;
         let mut count = 1;
+        // Stays a loop: tried one function with a closure for an entry: the `&'static str` in the closure's error is not covered.
         while entry_comes(self.cursor, count, MOST_SIGNS, "signs")? {
             self.sign(count)?;
             count += 1;
@@ -131,6 +131,7 @@ impl<'a> Names<'a> {
             return Ok(());
         }
         let mut count = 0;
+        // Stays a loop, as in `take_signs`.
         while entry_comes(self.cursor, count, MOST_LETTERS, "letters")? {
             let name = self.name()?;
             self.signature.letters.push(name)?;

@@ -1,5 +1,4 @@
 // Pairs of terms to be compared, one a line, in the names of a book.
-ghost use Rattle.std.specs.Prelude.{◌≤◌, vec_len};
 
 use crate::parser::Parser;
 use crate::signature::Signature;
@@ -22,12 +21,10 @@ const TERM: Limits = Limits {
 };
 
 impl Parser<'_> {
-    // Takes two terms with `=` between them, and adds their rows.
-    fn pair(&mut self, pair: &mut Pair) -> Result<(), Error>
-        requires { (vec_len pair.old.one ≤ 0) × (vec_len pair.old.other ≤ 0) }
-        ensures one { vec_len pair.new.one ≤ MOST_TERM }
-        ensures other { vec_len pair.new.other ≤ MOST_TERM }
-    {
+    // Takes two terms with `=` between them: their rows are the pair.
+    fn pair(&mut self, pair: &mut Pair) -> Result<(), Error> {
+        pair.one.clear();
+        pair.other.clear();
         self.term(&mut pair.one, TERM)?;
         self.cursor
             .expect(Kind::Equals, Expected::Words("`=` and the other term"))?;
@@ -43,12 +40,7 @@ pub fn parse_pair(
     signature: &Signature,
     line: &[u8],
     pair: &mut Pair,
-) -> Result<Line, Error>
-    ensures one { vec_len pair.new.one ≤ MOST_TERM }
-    ensures other { vec_len pair.new.other ≤ MOST_TERM }
-{
-    pair.one.clear();
-    pair.other.clear();
+) -> Result<Line, Error> {
     let cursor = Cursor::new(heap, line, 0);
     if cursor.token.is(Kind::End) {
         return Ok(Line::Blank);

@@ -1,12 +1,13 @@
 // The sections that follow the names: equations, and rules with their ways.
-// Stays loops that count by hand: each ends with the text, and the count is what is told.
 ghost use Rattle.std.specs.Prelude.{◌+◌, ◌≤◌, IfOk, vec_len};
+ghost use Rattle.lexing.specs.declared.rows.TheConstants.{MOST_WORDS};
 
 use crate::parser::{Parser, entry_comes};
 use crate::terms::Limits;
 use lexing::MOST_WORDS;
 use lexing::fault::{Error, Expected};
 use lexing::lexer::Kind;
+use std::alloc::{AllocError, Global};
 
 const MOST_EQUATIONS: u32 = 64;
 
@@ -22,6 +23,22 @@ const SIDE: Limits = Limits {
     of: "letters and signs a side",
 };
 
+// The row of all ways. It may be as long as the longest row of a book.
+#[derive(Drop)]
+pub(crate) struct Ways {
+    pub(crate) words: Vec<u32>,
+    ghost short: { vec_len words ≤ MOST_WORDS },
+}
+
+impl Ways {
+    // With space for the longest row.
+    fn new(heap: Global) -> Result<Ways, AllocError> {
+        Ok(Ways {
+            words: Vec::with_capacity(heap, MOST_WORDS)?,
+        })
+    }
+}
+
 // What a book's sections come to: how many signs, equations and rules there are, the row of the sides, and that of the ways.
 #[derive(Drop)]
 pub(crate) struct Sides {
@@ -29,7 +46,8 @@ pub(crate) struct Sides {
     pub(crate) equations: u32,
     pub(crate) rules: u32,
     pub(crate) row: Vec<u32>,
-    pub(crate) ways: Vec<u32>,
+    pub(crate) ways: Ways,
+    ghost short: { vec_len row ≤ 16384 },
 }
 
 impl Parser<'_> {
@@ -49,6 +67,7 @@ impl Parser<'_> {
         ensures few { IfOk result (λ n. n ≤ 64) }
     {
         let mut count = 0;
+        // Stays a loop, as in `Names::take_signs`; and what a closure had added to the row would not be known.
         while entry_comes(self.cursor, count, MOST_EQUATIONS, "equations")? {
             self.sides(row, Kind::Equals, "`=` and the equation's right side")?;
             count += 1;
@@ -57,20 +76,19 @@ impl Parser<'_> {
     }
 
     // Takes the terms of a way, and tells how many.
-    fn way_terms(&mut self, ways: &mut Vec<u32>) -> Result<u32, Error>
-        ensures { vec_len ways.old ≤ MOST_WORDS → vec_len ways.new ≤ MOST_WORDS }
-    {
+    fn way_terms(&mut self, ways: &mut Ways) -> Result<u32, Error> {
+        // Stays a loop over numbers: it ends with the text, and the count is what is told.
         for count in 0..u32::MAX {
             if !self.cursor.take(Kind::Equals) {
                 return Ok(count);
             }
             let limits = Limits {
-                symbols: MOST_WORDS.saturating_sub(ways.len()) / 2,
+                symbols: MOST_WORDS.saturating_sub(ways.words.len()) / 2,
                 letters: u32::MAX,
                 told: MOST_WORDS,
                 of: "words of ways",
             };
-            self.term(ways, limits)?;
+            self.term(&mut ways.words, limits)?;
         }
         Err(
             self.cursor
@@ -79,31 +97,29 @@ impl Parser<'_> {
     }
 
     // Takes the way of a rule: adds to the ways' row how many terms it has, and these.
-    fn way(&mut self, ways: &mut Vec<u32>) -> Result<(), Error>
-        ensures { vec_len ways.old ≤ MOST_WORDS → vec_len ways.new ≤ MOST_WORDS }
-    {
-        let start = ways.len();
+    fn way(&mut self, ways: &mut Ways) -> Result<(), Error> {
+        let start = ways.words.len();
         if start >= MOST_WORDS {
             return Err(
                 self.cursor
                     .fault(Expected::AtMost(MOST_WORDS, "words of ways")),
             );
         }
-        ways.push(0)?;
+        ways.words.push(0)?;
         let count = self.way_terms(ways)?;
-        if let Some(slot) = ways.get_mut(start) {
+        if let Some(slot) = ways.words.get_mut(start) {
             *slot = count;
         }
         Ok(())
     }
 
     // Takes the rules, each with its way, and tells how many.
-    fn rules(&mut self, row: &mut Vec<u32>, ways: &mut Vec<u32>) -> Result<u32, Error>
+    fn rules(&mut self, row: &mut Vec<u32>, ways: &mut Ways) -> Result<u32, Error>
         ensures len { vec_len row.new ≤ vec_len row.old + 8192 }
-        ensures ways { vec_len ways.old ≤ MOST_WORDS → vec_len ways.new ≤ MOST_WORDS }
         ensures few { IfOk result (λ n. n ≤ 64) }
     {
         let mut count = 0;
+        // Stays a loop, as in `Names::take_signs`; and what a closure had added to the row would not be known.
         while entry_comes(self.cursor, count, MOST_RULES, "rules")? {
             self.sides(row, Kind::Arrow, "`->` and the rule's right side")?;
             self.way(ways)?;
@@ -113,12 +129,10 @@ impl Parser<'_> {
     }
 
     // Takes all sections after the names of so many signs, up to the end of the text.
-    pub(crate) fn sections(&mut self, signs: u32) -> Result<Sides, Error>
-        ensures { IfOk result (λ s. (vec_len s.row ≤ 16384) × (vec_len s.ways ≤ MOST_WORDS)) }
-    {
+    pub(crate) fn sections(&mut self, signs: u32) -> Result<Sides, Error> {
         let heap = self.cursor.heap;
         let mut row = Vec::with_capacity(heap, 16_384)?;
-        let mut ways = Vec::with_capacity(heap, MOST_WORDS)?;
+        let mut ways = Ways::new(heap)?;
         let mut expected = "a name, `equations`, `rules` or the end of the text";
         let mut equations = 0;
         if self.cursor.take_word(b"equations") {

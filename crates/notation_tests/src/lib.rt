@@ -4,7 +4,7 @@
 #[cfg(test)]
 mod tests {
     use lexing::fault::{Error, on_line};
-    use lexing::pairs::{Line, Pair, read_pair};
+    use lexing::pairs::{Line, Pair};
     use lexing::read_rows;
     use notation::{Book, parse, parse_pair};
     use printing::{book_text, equation_text, rule_text};
@@ -404,7 +404,7 @@ rules
             assert_eq!(rt; shown(heap, found, &pair)?.as_str(), *wanted);
         }
         for (line, wanted) in &PAIR_ROWS {
-            let found = read_pair(heap, line.as_bytes(), &mut pair);
+            let found = pair.read(heap, line.as_bytes());
             assert_eq!(rt; shown(heap, found, &pair)?.as_str(), *wanted);
         }
         Ok(())

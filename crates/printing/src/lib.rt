@@ -1,4 +1,5 @@
 // Books, equations and rules written in the readable form.
+// Stays a heap beside the book, in all functions: the text lies where the caller says.
 #![tactic(auto)]
 
 ghost use Rattle.std.specs.Prelude.{◌≡◌, ◌≤◌, [], IfOk, string_bytes};
@@ -10,7 +11,6 @@ use printer::Printer;
 use std::alloc::{AllocError, Global};
 
 // The book, with its ways.
-// Stays a heap beside the book: the text lies where the caller says.
 pub fn book_text(heap: Global, book: &Book) -> Result<String, AllocError> {
     let mut printer = Printer::new(heap, book);
     printer.add_book()?;

@@ -53,18 +53,22 @@ search_start mask ws c key b f e t = record {
   mem = λ l. t.mem l ∙ e;
 }
 
-pub search_more : (mask : ℕ) (ws : List ℕ) (c : ℕ) (key : Key) (f g : ℕ) → Searched mask ws c key f → 0 < f →
-    (Holds ws (f - 1) key → ⊥) → Last mask ws (bucket_at mask ws (f - 1)) (f - 1) g → Searched mask ws c key g
-search_more mask ws c key f g s p n t = record {
-  low = omega (arith, s.low, t.low);
-  not = λ j l m o. ⊎_elim
-      (λ a. s.not j a m o)
-      (λ a. ⊎_elim (λ e. n (subst (λ (x : ℕ). Holds ws x key) e o))
-      (λ b. let z : j < g = t.all j b (holds_bucket mask ws j key o ∙ sym (s.mem p)) in omega arith)
-      (eq-or-lt_of_le (let z : j ≤ f - 1 = omega arith in z)))
-      (le_or_lt f j);
-  mem = λ l. t.mem l ∙ s.mem p;
-}
+pub search_more : (mask : ℕ) (ws : List ℕ) (c : ℕ) (key : Key) (f i g : ℕ) → f ≡ i + 1 → Searched mask ws c key f →
+    (Holds ws i key → ⊥) → Last mask ws (bucket_at mask ws i) i g → Searched mask ws c key g
+search_more mask ws c key f i g d s n t =
+    let z : f - 1 ≡ i = omega arith in
+    let mem : bucket_at mask ws i ≡ key_bucket mask key = subst (λ (x : ℕ). bucket_at mask ws x ≡ key_bucket mask key) z
+    (s.mem (omega arith)) in
+    record {
+      low = omega (arith, s.low, t.low);
+      not = λ j l m o. ⊎_elim
+          (λ a. s.not j a m o)
+          (λ a. ⊎_elim (λ e. n (subst (λ (x : ℕ). Holds ws x key) e o))
+          (λ b. let y : j < g = t.all j b (holds_bucket mask ws j key o ∙ sym mem) in omega arith)
+          (eq-or-lt_of_le (let y : j ≤ i = omega arith in y)))
+          (le_or_lt f j);
+      mem = λ l. t.mem l ∙ mem;
+    }
 
 last_kept : (mask : ℕ) (vs ws : List ℕ) (b n f : ℕ) → ((j : ℕ) → j < n → bucket_at mask ws j ≡ bucket_at mask vs j) →
     Last mask vs b n f → Last mask ws b n f
@@ -147,11 +151,3 @@ module _ (mask : ℕ) (vs : List ℕ) (n : ℕ) (key : Key) (ws : List ℕ) (c :
 
   pub chains_added : Chains mask ws (n + 1)
   chains_added = record { fits = fits; lasts = lasts_now; links = links_now }
-
-pub chains_none : (mask : ℕ) (ws : List ℕ) → HasSlot ws mask → ((j : ℕ) → j < mask + 1 → last_at ws j ≡ 0) → Chains mask ws 0
-chains_none mask ws r z = record {
-  fits = r;
-  links = λ i l. absurd (omega arith);
-  lasts = λ b l. subst (λ (v : ℕ). Last mask ws b 0 v) (sym (z b (omega arith)))
-      (record { low = omega arith; all = λ j l. absurd (omega arith); mem = λ l. absurd (omega arith) });
-}

@@ -26,16 +26,6 @@ pub no_cell : {A : Type 0} (x : Result A Short) → IsErrAnd x (λ s. s ≡ NoCe
 no_cell x h = let p = err_from_is_err_and x h in p.1 ∙ ap Err p.2
 
 -- pushing parts, from the last on
-pub pushed_none : (a : Store) (q : Roots) (i k n : ℕ) → HasRoots q.cells.now q.top → n ≡ 0 → PartsPushed a q i k n q
-pushed_none a q i k n f e = record {
-  long = refl;
-  top = omega arith;
-  fits = f;
-  low = λ j l m. absurd (omega arith);
-  rest = λ j l. refl;
-  is = ap (λ (m : ℕ). terms_down a q q.top m) e ∙ sym (ap (parts_by (λ j. term_in a j) (λ m. part_in a i m) k) e);
-}
-
 pub pushed_more : (a : Store) (q : Roots) (i k n : ℕ) (r : Roots) (p : ℕ) (s : Roots) → PartsPushed a q i (k + 1) n r →
     p ≡ part_in a i k → p < a.count → StackedOn r r.top p s → HasRoots s.cells.now s.top → (m : ℕ) → m ≡ suc n →
     PartsPushed a q i k m s
@@ -234,13 +224,3 @@ pub emitted_short : (a : Store) (p : Roots) (q : Roots) (t : Term) (vs : List �
     SymbolOrShort a r ws at s xs (Err x) → WrittenOrShort p t vs xs (Err x)
 emitted_short a p q t vs at r ws e l z s xs NoWord h = omega (arith, room_left a p.top q t vs at r ws e l, e.long)
 emitted_short a p q t vs at r ws e l z s xs NoCell h = λ f. h (omega (arith, cells_enough a p.top q t vs at r ws e l, e.below.long))
-
--- the roots below, as they were before the first push
-pub below_pushed : (q : Roots) (p : ℕ) (s r : Roots) → StackedOn q q.top p s → RootsBelow q.top s r → RootsBelow q.top q r
-below_pushed q p s r x b = record { long = b.long ∙ x.long; rest = λ j l. b.rest j l ∙ x.rest j (λ z. omega arith) }
-
-pub below_cut : (n : ℕ) (q r s u : Roots) → RootsBelow n q r → n < r.top → RootsBelow (r.top - 1) r s → CutTo s n u → RootsBelow n q u
-below_cut n q r s u b l d cut = record {
-  long = ap length cut.cells ∙ d.long ∙ b.long;
-  rest = λ j z. ap (λ (ws : List ℕ). root_at ws j) cut.cells ∙ d.rest j (omega arith) ∙ b.rest j z;
-}

@@ -1,6 +1,7 @@
 -- Reading a row from its end on: the roots above the first ones hold the terms from symbol k on.
-use Rattle.std.proofs.Common.{◌≡◌, ℕ, suc, ◌+◌, ◌-◌, ◌*◌, ◌<◌, ◌≤◌, List, ◌∷◌, length, get_or, drop, Ok, Err, sym, refl, ap, ◌∙◌, subst}
-use Rattle.std.proofs.Common.{⊎_elim, append-nil, arith, rules, get_or-drop, Some, None, Option, IsSome}
+use Rattle.std.proofs.Common.{◌≡◌, ℕ, suc, ◌+◌, ◌-◌, ◌*◌, ◌<◌, ◌≤◌, List, ◌∷◌, ◌++◌, length, get_or, drop, Ok, Err, sym, refl, ap, ◌∙◌, subst}
+use Rattle.std.proofs.Common.{◌%◌, [], ⊎_elim, append-nil, arith, rules, get_or-drop, Some, None, Option, IsSome}
+use Rattle.std.proofs.lemmas.List.{nil_from_length, append_assoc, length-append, get_or_append_left, get_or-append-add}
 use mathlib.Core.Option.{some}
 use Rattle.rewriting.specs.Terms.{nth, Term, letter, sign, Terms, none1, and1, count, size, sizes, AnyLetter, AllOver}
 use Rattle.rewriting.specs.Rules.{Part}
@@ -124,7 +125,7 @@ module _ (ps ws : List ℕ) (a : Store) (q : Roots) (t : Term) (k : ℕ) (b : St
         (first_word ∙ h.1) (word_at ps ws t k 1 w ∙ h.2) s.is;
   }
 
-pub turn : (ps ws : List ℕ) (a : Store) (q : Roots) (t : Term) (n : ℕ) (b : Store) (r : Roots) → FewParts ps → RowOf ps ws t →
+turn : (ps ws : List ℕ) (a : Store) (q : Roots) (t : Term) (n : ℕ) (b : Store) (r : Roots) → FewParts ps → RowOf ps ws t →
     0 < n → 2 * n ≤ length ws → SoFar a q t n b r → (x : Option Symbol) (y : Symbol) → x ≡ Some y → SymbolAt ws (2 * (n - 1)) x →
     Turn ps a q t (n - 1) b r y
 turn ps ws a q t n b r few w p l s x y d h =
@@ -149,7 +150,7 @@ symbol_there ps ws t n w p l None h =
     absurd (omega arith)
 
 -- before the first symbol that is read
-pub so_far_none : (a : Store) (q : Roots) (t : Term) (k : ℕ) → Inside a q → k ≡ size t → SoFar a q t k a q
+so_far_none : (a : Store) (q : Roots) (t : Term) (k : ℕ) → Inside a q → k ≡ size t → SoFar a q t k a q
 so_far_none a q t k i e = record {
   room = refl;
   carried = carried_grown a a (grown_same a);
@@ -165,7 +166,7 @@ so_far_none a q t k i e = record {
 -- one symbol more
 module _ (ps : List ℕ) (a : Store) (q : Roots) (t : Term) (k : ℕ) (b : Store) (r : Roots) (s : SoFar a q t (suc k) b r) (y : Symbol)
     (h : Ready ps q.top b r y (after k (and1 t none1))) (l : k < size t) (d : Store) (u : Roots) where
-  pub read_more : (x : Unit {0}) →
+  read_more : (x : Unit {0}) →
       Made b r (r.top - takes ps y) (symbol_term b r (takes ps y) y) d u (Ok x) → SoFar a q t k d u
   read_more x m = let v = m.roots in
       let from1 : r.top - takes ps y ≡ q.top + (r.top - q.top - takes ps y) = omega (arith, h.enough, s.above) in
@@ -216,7 +217,7 @@ module _ (ps : List ℕ) (a : Store) (q : Roots) (t : Term) (k : ℕ) (b : Store
       let e : count h.rest ≡ r.top - q.top - takes ps y = ap count (sym h.others) ∙ down_count b r q.top _ in
       omega (arith, count_sizes (after k (and1 t none1)), after_sizes k (and1 t none1) (omega arith), h.enough, s.above)
 
-  pub read_stops : (f : Full) (w : Roots) →
+  read_stops : (f : Full) (w : Roots) →
       Made b r (r.top - takes ps y) (symbol_term b r (takes ps y) y) d u (Err f) → CutTo u q.top w →
       Read a q t d w (Err f)
   read_stops NoSlot w m c = record {
@@ -236,8 +237,96 @@ module _ (ps : List ℕ) (a : Store) (q : Roots) (t : Term) (k : ℕ) (b : Store
     roots = (cut_kept w m.roots.0 c, λ g. m.roots.1 (omega (arith, few_roots, s.long)));
   }
 
+-- the words up to a symbol are still to be read
+pub record ToRead (ps ws rest : List ℕ) (a : Store) (q : Roots) (b : Store) (r : Roots) : Type 0 where
+  pub number : ℕ
+  pub long : length rest ≡ 2 * number
+  pub tail : List ℕ
+  pub split : ws ≡ rest ++ tail
+  pub so_far : (t : Term) → RowOf ps ws t → SoFar a q t number b r
+
+-- at first all are
+pub all_to_read : (ps ws none rest : List ℕ) (a : Store) (q : Roots) → ws ≡ none ++ rest → length none ≡ length ws % 2 → Inside a q →
+    (t : Term) → RowOf ps ws t → ToRead ps ws rest a q a q
+all_to_read ps ws none rest a q e l i t w =
+    let n : none ≡ [] = nil_from_length none (omega (arith, l, symbols w)) in
+    let d : ws ≡ rest = e ∙ ap (λ (xs : List ℕ). xs ++ rest) n in
+    record {
+      number = size t;
+      long = omega (arith, ap length d, symbols w);
+      tail = [];
+      split = d ∙ sym (append-nil rest);
+      so_far = λ u o. so_far_none a q u (size t) i (omega (arith, symbols w, symbols o));
+    }
+
+-- a symbol that stands in a row by itself
+module _ (ws rest pair tail : List ℕ) (k : ℕ) (e : ws ≡ (rest ++ pair) ++ tail) (l : length rest ≡ 2 * k) (two : length pair ≡ 2) where
+  long_pair : length ws ≡ 2 * k + 2 + length tail
+  long_pair = omega (arith, ap length e, length-append (rest ++ pair) tail, length-append rest pair)
+
+  word_in : (i : ℕ) → i < 2 → get_or ws (2 * k + i) 0 ≡ get_or pair i 0
+  word_in i m =
+      ap (λ (xs : List ℕ). get_or xs (2 * k + i) 0) e
+      ∙ get_or_append_left (rest ++ pair) tail 0 (2 * k + i) (omega (arith, length-append rest pair))
+      ∙ ap (λ (n : ℕ). get_or (rest ++ pair) (n + i) 0) (sym l)
+      ∙ get_or-append-add rest pair i 0
+
+  first_in : get_or ws (2 * k) 0 ≡ get_or pair 0 0
+  first_in = let z : 2 * k ≡ 2 * k + 0 = omega arith in ap (λ (i : ℕ). get_or ws i 0) z ∙ word_in 0 (omega arith)
+
+  symbol_in : (x : Option Symbol) → SymbolAt pair 0 x → SymbolAt ws (2 * k) x
+  symbol_in (Some y) h = (omega (arith, long_pair), first_in ∙ h.1, word_in 1 (omega arith) ∙ h.2)
+  symbol_in None h = λ m. let z = h (omega arith) in omega (arith, first_in)
+
+-- the last symbol that is to be read
+module _ (ps ws all rest pair : List ℕ) (a : Store) (q : Roots) (b : Store) (r : Roots) (h : ToRead ps ws all a q b r)
+    (e : all ≡ rest ++ pair) (two : length pair ≡ 2) (x : Option Symbol) (at : SymbolAt pair 0 x) where
+  long_all : 2 * h.number ≡ length rest + 2
+  long_all = omega (arith, h.long, ap length e, length-append rest pair)
+
+  long_rest : length rest ≡ 2 * (h.number - 1)
+  long_rest = omega (arith, long_all)
+
+  long_words : 2 * h.number ≤ length ws
+  long_words = omega (arith, h.long, ap length h.split, length-append all h.tail)
+
+  split_on : ws ≡ (rest ++ pair) ++ h.tail
+  split_on = h.split ∙ ap (λ (xs : List ℕ). xs ++ h.tail) e
+
+  symbol_next : SymbolAt ws (2 * (h.number - 1)) x
+  symbol_next = symbol_in ws rest pair h.tail (h.number - 1) split_on long_rest two x at
+
+  pub next_there : (t : Term) → RowOf ps ws t → IsSome x
+  next_there t w = symbol_there ps ws t h.number w (omega (arith, long_all)) long_words x symbol_next
+
+  module _ (few : FewParts ps) (y : Symbol) (is : x ≡ Some y) where
+    pub next_turn : (t : Term) → RowOf ps ws t → Turn ps a q t (h.number - 1) b r y
+    next_turn t w =
+        turn ps ws a q t h.number b r few w (omega (arith, long_all)) long_words (h.so_far t w) x y is symbol_next
+
+    pub next_readable : (t : Term) → RowOf ps ws t → Inside b r × Readable ps r y
+    next_readable t w = let z = next_turn t w in (z.so_far.inside, z.ready.readable)
+
+    module _ (d : Store) (u : Roots) where
+      pub next_stops : (f : Full) (v : Roots) →
+          Made b r (r.top - takes ps y) (symbol_term b r (takes ps y) y) d u (Err f) → CutTo u q.top v →
+          (t : Term) → RowOf ps ws t → Read a q t d v (Err f)
+      next_stops f v m c t w =
+          let z = next_turn t w in
+          read_stops ps a q t (h.number - 1) b r z.so_far y z.ready z.low d u f v m c
+
+      pub next_read : (o : Unit {0}) → Made b r (r.top - takes ps y) (symbol_term b r (takes ps y) y) d u (Ok o) →
+          ToRead ps ws rest a q d u
+      next_read o m = record {
+        number = h.number - 1;
+        long = long_rest;
+        tail = pair ++ h.tail;
+        split = split_on ∙ append_assoc rest pair h.tail;
+        so_far = λ t w. let z = next_turn t w in read_more ps a q t (h.number - 1) b r z.so_far y z.ready z.low d u o m;
+      }
+
 -- all symbols
-pub read_done : (a : Store) (q : Roots) (t : Term) (b : Store) (r : Roots) (x : Unit {0}) → SoFar a q t 0 b r → Read a q t b r (Ok x)
+read_done : (a : Store) (q : Roots) (t : Term) (b : Store) (r : Roots) (x : Unit {0}) → SoFar a q t 0 b r → Read a q t b r (Ok x)
 read_done a q t b r x s =
     let o = down_one b r q.top (r.top - q.top) t s.is in
     record {
@@ -246,3 +335,9 @@ read_done a q t b r x s =
       carried = s.carried;
       roots = record { top = omega (arith, o.0); long = s.long; inside = s.inside; terms = s.kept; term = o.1 };
     }
+
+pub all_read : (ps ws rest : List ℕ) (a : Store) (q : Roots) (b : Store) (r : Roots) (x : Unit {0}) → ToRead ps ws rest a q b r →
+    length rest < 2 → (t : Term) → RowOf ps ws t → Read a q t b r (Ok x)
+all_read ps ws rest a q b r x h l t w =
+    let z : h.number ≡ 0 = omega (arith, h.long) in
+    read_done a q t b r x (subst (λ (i : ℕ). SoFar a q t i b r) z (h.so_far t w))

@@ -11,19 +11,6 @@ use Rattle.store.proofs.Cases.{below_next}
 use Rattle.store.proofs.Decoding.{node_same, term_is, stays, added_is, shared_added, shape_added}
 use Rattle.store.proofs.Chaining.{added, chains_added, chains_kept}
 
-pub slide_start : (vs : List ℕ) → Slid vs 0 vs 0
-slide_start vs = record {
-  less = omega arith;
-  high = λ j k l m. refl;
-  ahead = λ j l. refl;
-  shared = record {
-    shape = record { fits = omega arith; tags = λ i l. absurd (omega arith); below = λ i k l. absurd (omega arith) };
-    once = λ i j a b. absurd (omega arith);
-  };
-  to = λ j l. absurd (omega arith);
-  from = λ m l. absurd (omega arith);
-}
-
 came_later : (vs : List ℕ) (i : ℕ) (ws : List ℕ) (m : ℕ) (xs : List ℕ) → Came vs i ws m →
     cell xs m 0 ≡ cell ws m 0 → term_of xs m ≡ term_of ws m → Came vs (i + 1) xs m
 came_later vs i ws m xs f h t = record {

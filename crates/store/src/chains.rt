@@ -66,11 +66,11 @@ impl Store<'_> {
     {
         let mut next = get(self.words, bucket(self.mask, key), LAST);
         // Stays a while: it follows links from slot to slot, until there is none.
-        while next != 0 {
-            if holds(self.words, next - 1, key) {
-                return Some(next - 1);
+        while let Some(i) = next.checked_sub(1) {
+            if holds(self.words, i, key) {
+                return Some(i);
             }
-            next = get(self.words, next - 1, LINK);
+            next = get(self.words, i, LINK);
         }
         None
     }

@@ -41,7 +41,7 @@ fn mark_reached(ws: &mut [u32], count: usize)
 }
 
 fn mark_roots(ws: &mut [u32], count: usize, roots: &Roots)
-    requires count_in_bounds { 16 * count ≤ length ws.old }
+    requires slots { 16 * count ≤ length ws.old }
     requires roots { RootsIn roots.now count }
     ensures { MarkedToo (λ k. root_in roots.now k) roots.now.top ws.old ws.new }
 {
@@ -63,9 +63,9 @@ fn mark(ws: &mut [u32], count: usize, roots: &Roots)
 
 // The new place of part k of slot i, which has n parts.
 fn moved_part(ws: &[u32], i: usize, n: usize, k: usize) -> usize
-    requires has_slot { (HasSlot ws.now i) × (n ≤ 4) }
-    requires by_index { (m : ℕ) → m < n → HasSlot ws.now (part_at ws.now i m) }
-    requires by_index_2 { (m : ℕ) → m < n → 0 < note_at ws.now (part_at ws.now i m) }
+    requires slot { (HasSlot ws.now i) × (n ≤ 4) }
+    requires parts { (m : ℕ) → m < n → HasSlot ws.now (part_at ws.now i m) }
+    requires noted { (m : ℕ) → m < n → 0 < note_at ws.now (part_at ws.now i m) }
     ensures { k < n → result ≡ note_at ws.now (part_at ws.now i k) - 1 }
 {
     if k < n {
@@ -77,9 +77,9 @@ fn moved_part(ws: &[u32], i: usize, n: usize, k: usize) -> usize
 
 // The key of slot i, with its parts' new places.
 fn translated(ws: &[u32], i: usize) -> Key
-    requires has_slot { (HasSlot ws.now i) × (tag_of (kind_at ws.now i) ≤ 5) }
-    requires by_index { (k : ℕ) → k < arity_at ws.now i → HasSlot ws.now (part_at ws.now i k) }
-    requires by_index_2 { (k : ℕ) → k < arity_at ws.now i → 0 < note_at ws.now (part_at ws.now i k) }
+    requires slot { (HasSlot ws.now i) × (tag_of (kind_at ws.now i) ≤ 5) }
+    requires parts { (k : ℕ) → k < arity_at ws.now i → HasSlot ws.now (part_at ws.now i k) }
+    requires noted { (k : ℕ) → k < arity_at ws.now i → 0 < note_at ws.now (part_at ws.now i k) }
     ensures { Translated ws.now i result }
 {
     let n = arity_at(ws, i);
@@ -92,7 +92,7 @@ fn translated(ws: &[u32], i: usize) -> Key
 // Moves the marked slots down, notes where to, and chains them anew; says how many there are.
 fn slide(ws: &mut [u32], count: usize, mask: usize) -> usize
     requires shared { (Shared ws.old count) × ((Closed ws.old count) × (HasSlot ws.old mask)) }
-    requires by_index { (j : ℕ) → j < mask + 1 → last_at ws.old j ≡ 0 }
+    requires empty { (j : ℕ) → j < mask + 1 → last_at ws.old j ≡ 0 }
     ensures slid { Slid ws.old count ws.new result }
     ensures chains { Chains mask ws.new result }
 {
@@ -110,7 +110,7 @@ fn slide(ws: &mut [u32], count: usize, mask: usize) -> usize
 
 fn move_roots(roots: &mut Roots, ws: &[u32])
     requires has_roots { HasRoots roots.old.cells.now roots.old.top }
-    requires by_index { (k : ℕ) → k < roots.old.top →
+    requires noted { (k : ℕ) → k < roots.old.top →
         HasSlot ws.now (root_in roots.old k) × (0 < note_at ws.now (root_in roots.old k)) }
     ensures { RootsMoved ws.now roots.old roots.old.top roots.new }
 {

@@ -33,9 +33,8 @@ impl Store<'_> {
             Read self.old roots.old t self.new roots.new result }
     {
         let base = roots.top;
-        // Stays a loop over numbers: a symbol is two words, read by its place.
-        for k in (0..words.len() / 2).rev() {
-            let symbol = symbol_at(words, 2 * k).unwrap();
+        for pair in words.rchunks_exact(2) {
+            let symbol = symbol_at(pair, 0).unwrap();
             // Stays without `?`: the roots are cut back before the refusal is handed on.
             if let Err(full) = self.read_symbol(roots, parts, symbol) {
                 roots.truncate(base);

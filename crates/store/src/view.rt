@@ -69,10 +69,7 @@ impl Store<'_> {
         requires { p.0 < self.now.count }
         ensures { note_of result ≡ note_in self.now p.0 }
     {
-        match self.cell(p, NOTE) {
-            0 => None,
-            q => Some(Place(q - 1)),
-        }
+        self.cell(p, NOTE).checked_sub(1).map(Place)
     }
 
     pub fn set_note(&mut self, p: Place, q: Place)

@@ -4,7 +4,7 @@ use answers::told_words;
 use arguments::{Input, Stopped};
 use equal::Told;
 use lexing::fault::{Error, on_line};
-use lexing::pairs::{Line, Pair, read_pair};
+use lexing::pairs::{Line, Pair};
 use notation::parse_pair;
 use notation::signature::Signature;
 use std::io;
@@ -26,7 +26,7 @@ impl Asking<'_> {
     fn read(self, line: &[u8], pair: &mut Pair) -> Result<Line, Error> {
         match self.signature {
             Some(signature) => parse_pair(self.rt.alloc(), signature, line, pair),
-            None => read_pair(self.rt.alloc(), line, pair),
+            None => pair.read(self.rt.alloc(), line),
         }
     }
 }

@@ -10,8 +10,8 @@ use store::{Node, Place, Store};
 // Builds the image of the class that is known by a place, unless it has one or waits for those of its parts. A letter is its own.
 fn build_at(store: &mut Store, n: usize, classes: &Classes, images: &mut Images, p: Place) -> bool
     requires { (Building store.old n classes.now images.old) × (p.0 < n) }
-    ensures goes { Builds store.old images.old n classes.now store.new images.new }
-    ensures tells { BuiltAt store.old images.old n classes.now p.0 store.new images.new result }
+    ensures built { Builds store.old images.old n classes.now store.new images.new }
+    ensures told { BuiltAt store.old images.old n classes.now p.0 store.new images.new result }
 {
     if classes.known_by(p) != p || images.get(p).is_some() {
         return false;
@@ -32,8 +32,8 @@ fn build_at(store: &mut Store, n: usize, classes: &Classes, images: &mut Images,
 // Whether a round over the first n places has built an image.
 fn build_round(store: &mut Store, n: usize, classes: &Classes, images: &mut Images) -> bool
     requires { Building store.old n classes.now images.old }
-    ensures goes { Builds store.old images.old n classes.now store.new images.new }
-    ensures tells { RoundBuilt images.old n classes.now n store.new images.new result }
+    ensures built { Builds store.old images.old n classes.now store.new images.new }
+    ensures told { RoundBuilt images.old n classes.now n store.new images.new result }
 {
     let mut found = false;
     // Stays a loop over numbers: each is a place's.
@@ -46,8 +46,8 @@ fn build_round(store: &mut Store, n: usize, classes: &Classes, images: &mut Imag
 // Builds images until the rest wait for each other.
 pub fn build(store: &mut Store, n: usize, classes: &Classes, images: &mut Images)
     requires { Building store.old n classes.now images.old }
-    ensures goes { Builds store.old images.old n classes.now store.new images.new }
-    ensures tells { RoundBuilt images.old n classes.now n store.new images.new false }
+    ensures built { Builds store.old images.old n classes.now store.new images.new }
+    ensures told { RoundBuilt images.old n classes.now n store.new images.new false }
 {
     // Stays a while with no body: it ends with the first round that builds nothing.
     while build_round(store, n, classes, images) {}

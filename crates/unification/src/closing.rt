@@ -33,8 +33,8 @@ impl Closing<'_, '_> {
     // The first of n parts at which the parts of two signs are in different classes.
     // Stays beside that of `ways`: each is one `find`, and what they compare differs.
     fn first_difference(&self, p: Place, q: Place, n: usize) -> Option<usize>
-        requires p { (p.0 < self.now.store.now.count) × (arity_in self.now.store.now p.0 ≡ n) }
-        requires q { (q.0 < self.now.store.now.count) × (arity_in self.now.store.now q.0 ≡ n) }
+        requires first { (p.0 < self.now.store.now.count) × (arity_in self.now.store.now p.0 ≡ n) }
+        requires second { (q.0 < self.now.store.now.count) × (arity_in self.now.store.now q.0 ≡ n) }
         ensures { FirstDifference self.now.store.now self.now.classes p.0 q.0 n result }
     {
         let class = |p, k| self.classes.known_by(self.store.part(p, k));

@@ -1,5 +1,5 @@
 // Images of classes: none at first, and then built from the images of parts.
-ghost use Rattle.std.specs.Prelude.{◌≡◌, ℕ, ◌<◌, ◌≤◌, replicate, Some, None, slice_set};
+ghost use Rattle.std.specs.Prelude.{◌≡◌, ◌<◌, ◌≤◌, replicate, Some, None, slice_set};
 ghost use Rattle.store.specs.Stores.{arity_in};
 ghost use Rattle.unification.specs.Images.{image, Complete, PartImages};
 
@@ -43,6 +43,7 @@ impl Images {
     }
 
     // Whether the classes of the first n places all have images.
+    // Stays with n beside the classes: the store that they belong to grows while images are built.
     pub fn complete(&self, classes: &Classes, n: usize) -> bool
         requires { n ≤ 96 }
         ensures { Complete classes.now self.now n result }

@@ -6,6 +6,7 @@ ghost use Rattle.ways.specs.Steps.{FirstDifference, OnlyDifference};
 use store::{Node, Place, Store};
 
 // The first of the parts from one on, of n that the terms at p and q have, in which they differ.
+// Stays beside that of `unification`: each is one `find`, and what they compare differs.
 fn first_difference(store: &Store, p: Place, q: Place, from: usize, n: usize) -> Option<usize>
     requires places { (p.0 < store.now.count) × (q.0 < store.now.count) }
     requires arity { (arity_in store.now p.0 ≡ n) × (arity_in store.now q.0 ≡ n) }

@@ -19,8 +19,7 @@ impl Walk<'_, '_, '_> {
     // Whether one step leads from the term at p to that at q, which is another: at the top, or at the only part in which they differ.
     fn leads_to_other(&self, mut p: Place, mut q: Place) -> bool
         requires { (Comparable self.now.book.now self.now.store.now p q) × (p.0 ≢ q.0) }
-        ensures { Tells result (One (told self.now.book.now).eqs (term_in self.now.store.now p.0)
-            (term_in self.now.store.now q.0)) }
+        ensures { Tells result (One (told self.now.book.now).eqs (term_in self.now.store.now p.0) (term_in self.now.store.now q.0)) }
     {
         // Stays a loop: both places go down at once, and it is left in two ways.
         loop {
@@ -37,7 +36,7 @@ impl Walk<'_, '_, '_> {
 
     // Puts the parts of the uppermost root's term in its place.
     fn expand(&mut self)
-        requires some { (Inside self.old.store.now self.old.roots.now) × (0 < self.old.roots.now.top) }
+        requires root { (Inside self.old.store.now self.old.roots.now) × (0 < self.old.roots.now.top) }
         requires has_roots { HasRoots self.old.roots.now.cells.now
             (self.old.roots.now.top - 1 + count (inner (held self.old.store.now self.old.roots.now (self.old.roots.now.top - 1)))) }
         ensures only { OnlyRoots self.old self.new }

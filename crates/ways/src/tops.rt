@@ -27,8 +27,7 @@ impl Walk<'_, '_, '_> {
     // Whether an equation leads from the term at p to that at q at the top, either way round.
     pub fn equated(&self, p: Place, q: Place) -> bool
         requires { Comparable self.now.book.now self.now.store.now p q }
-        ensures { Tells result (Equated (told self.now.book.now).eqs (term_in self.now.store.now p.0)
-            (term_in self.now.store.now q.0)) }
+        ensures { Tells result (Equated (told self.now.book.now).eqs (term_in self.now.store.now p.0) (term_in self.now.store.now q.0)) }
     {
         (0..self.book.layout.equations()).any(|i| self.matched(i, p, q).is_some()
             || self.matched(i, q, p).is_some())

@@ -80,7 +80,7 @@ impl Walk<'_, '_, '_> {
             (held self.new.store.now self.new.roots.now 0) result }
     {
         let mut at = from;
-        // Stays a loop: each turn changes the walk, and a proof learns nothing of what a closure has changed.
+        // Stays a loop: tried `try_fold`: it tells which calls were made, and of the walk that its closure had nothing is known after it.
         for _ in 0..count {
             at = self.next(at)?;
         }
@@ -116,7 +116,7 @@ impl Walk<'_, '_, '_> {
         ensures told { Tells (is_some result) (Shown self.old.book.now self.old.ways.now) }
     {
         let mut at = 0;
-        // Stays a loop, as in `follow`.
+        // Stays a loop: tried `try_fold`, with the same goal left as in `follow`: that the walk is kept.
         for i in 0..self.book.layout.rules() {
             let count = self.ways[at] as usize;
             at = self.way(i, at + 1, count)?;

@@ -7,7 +7,7 @@ use Rattle.engine.proofs.turns.advance.Goals as goal
 pub returns-then-is_normal : goal.returns-then-is_normal
 returns-then-is_normal c =
     by_flag (told c.args.book.now).rules c.args.store.now c.args.p c.requires.honest
-    c.requires.rewritable.0.inside
+    c.requires.rewritable.inside
     (sym c.if-is_normal.ensures)
 
 pub returns : goal.returns

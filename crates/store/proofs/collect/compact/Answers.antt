@@ -4,12 +4,12 @@ use Rattle.store.specs.Stacks.{root_in}
 use Rattle.store.proofs.Collecting.{ready, collected}
 use Rattle.store.proofs.collect.compact.Goals as goal
 
-pub slide-n-requires : goal.slide-n-requires
-slide-n-requires c =
+pub slide-n-requires-clause-shared : goal.slide-n-requires-clause-shared
+slide-n-requires-clause-shared c =
     let q : ℕ → ℕ = λ k. root_in c.args.roots.now k in
     let r = ready c.args.ws.now c.mark.new.ws c.clear.new.ws c.args.count (c.args.mask + 1) q c.args.roots.now.top
     c.requires.shared.0 c.mark.ensures (omega arith) c.clear.ensures in
-    record { shared = (r.0, (r.1, omega arith)); by_index = c.clear.ensures.is }
+    (r.0, (r.1, omega arith))
 
 pub returns : goal.returns
 returns c =

@@ -25,11 +25,11 @@ returns-in-Letter c =
     let f = one_fewer st st c.args.n c.args.classes.now m c.put.new.self p p b (grown_same st) (omega arith) e
     c.put.ensures in
     record {
-      goes = built_one st st c.args.n c.args.classes.now m c.put.new.self p p b (grown_same st) (omega arith) e
+      built = built_one st st c.args.n c.args.classes.now m c.put.new.self p p b (grown_same st) (omega arith) e
           c.put.ensures b.sound (omega arith)
           (letter_image st c.args.n c.args.classes.now c.put.new.self p c.in-Letter.field-0 (omega (arith, b.within))
           c.in-Letter.ensures.1);
-      tells = omega arith;
+      told = omega arith;
     }
 
 pub returns-in-Some : goal.returns-in-Some
@@ -46,15 +46,15 @@ returns-in-Some c =
     let v = c.in-Sign.ensures in
     let f = one_fewer st su c.args.n c.args.classes.now m k p q b s.grown (omega arith) e c.put-in-Sign.ensures in
     record {
-      goes = built_one st su c.args.n c.args.classes.now m k p q b s.grown (omega arith) e c.put-in-Sign.ensures
+      built = built_one st su c.args.n c.args.classes.now m k p q b s.grown (omega arith) e c.put-in-Sign.ensures
           s.sound s.few
           (sign_image st c.args.n c.args.classes.now m p b (omega arith) c.in-Sign.f c.in-Sign.m v.1 v.2
           c.in-Some.parts c.in-Some.ensures su k q s e c.put-in-Sign.ensures);
-      tells = omega arith;
+      told = omega arith;
     }
 
-pub returns-in_default-clause-tells : goal.returns-in_default-clause-tells
-returns-in_default-clause-tells c =
+pub returns-in_default-clause-told : goal.returns-in_default-clause-told
+returns-in_default-clause-told c =
     let s = c.in-Sign.ensures in
     let x = c.in_default.ensures in (
       refl,

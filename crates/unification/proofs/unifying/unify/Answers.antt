@@ -17,7 +17,7 @@ returns-then-not-complete-clause-unified c =
     let x = c.if-not-complete.ensures in
     never_one c.args.store.now c.build.new.store c.args.p c.args.q c.in_ok-classes.classes c.new-images.result c.build.new.images
     (closure_ok c.args.store.now c.args.p c.args.q c.close.result c.in_ok-classes.classes c.close.ensures
-    c.in_ok-classes.ensures.value) c.build.ensures.goes c.build.ensures.tells x.0 x.1
+    c.in_ok-classes.ensures.value) c.build.ensures.built c.build.ensures.told x.0 x.1
 
 pub bind_letters-requires : goal.bind_letters-requires
 bind_letters-requires c x l =
@@ -29,5 +29,5 @@ pub returns-clause-unified : goal.returns-clause-unified
 returns-clause-unified c =
     unifier_is c.args.store.now c.build.new.store c.args.p c.args.q c.in_ok-classes.classes c.new-images.result c.build.new.images
     (closure_ok c.args.store.now c.args.p c.args.q c.close.result c.in_ok-classes.classes c.close.ensures
-    c.in_ok-classes.ensures.value) c.build.ensures.goes c.args.letters.now c.bind_letters.result c.requires.0
+    c.in_ok-classes.ensures.value) c.build.ensures.built c.args.letters.now c.bind_letters.result c.requires.0
     c.if-not-complete.ensures c.bind_letters.ensures (omega arith) (omega arith)

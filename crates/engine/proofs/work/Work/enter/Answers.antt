@@ -1,5 +1,5 @@
 -- What is known or a rule makes, or the first part.
-use Rattle.std.proofs.Common.{sym, subst, arith}
+use Rattle.std.proofs.Common.{sym, subst}
 use Rattle.store.specs.declared.types.Store.{Store}
 use Rattle.books.specs.Books.{told}
 use Rattle.engine.specs.declared.types.Focus.TheVariants.{Eval}
@@ -9,11 +9,9 @@ use Rattle.engine.proofs.Turned.{eval_rewritable, eval_turned}
 use Rattle.engine.proofs.work.Work.enter.Goals as goal
 
 pub advance-requires-clause-rewritable : goal.advance-requires-clause-rewritable
-advance-requires-clause-rewritable c = (
-  eval_rewritable c.args.book.now c.requires.can_turn.0.0 c.args.self.now.store c.args.self.now.roots c.args.self.now.frames c.args.p
-      c.requires.can_turn.0.1,
-  omega (arith, c.requires.can_turn.1.slots),
-)
+advance-requires-clause-rewritable c =
+    eval_rewritable c.args.book.now c.requires.can_turn.0 c.args.self.now.store c.args.self.now.roots c.args.self.now.frames c.args.p
+    c.requires.can_turn.1
 
 pub returns-in-Some : goal.returns-in-Some
 returns-in-Some c low ready =

@@ -5,19 +5,18 @@ use Rattle.engine.proofs.work.Work.eval.Goals.{in_default-via-in-Sign+else-n-gt0
 use Rattle.engine.proofs.work.Work.eval.Goals as goal
 
 pub apply-requires-clause-rewritable : goal.apply-requires-clause-rewritable
-apply-requires-clause-rewritable c = (
-  eval_rewritable c.args.book.now c.requires.0.0 c.args.self.now.store c.args.self.now.roots c.args.self.now.frames c.args.p c.requires.0.1,
-  omega (arith, c.requires.1.slots),
-)
+apply-requires-clause-rewritable c =
+    eval_rewritable c.args.book.now c.requires.can_turn.0 c.args.self.now.store c.args.self.now.roots c.args.self.now.frames c.args.p
+    c.requires.can_turn.1
 
 pub apply-requires-clause-done : goal.apply-requires-clause-done
 apply-requires-clause-done c = elim c.in_default.branch [
   | in_default-via-in-Sign+else-n-gt0 w ↦
-      leaf_normal c.args.book.now c.requires.0.0 c.args.self.now.store c.args.self.now.roots c.args.self.now.frames c.args.p c.requires.0.1
+      leaf_normal c.args.book.now c.requires.can_turn.0 c.args.self.now.store c.args.self.now.roots c.args.self.now.frames c.args.p c.requires.can_turn.1
       w.in-Sign.f w.in-Sign.n w.in-Sign.ensures.2 (omega (arith, w.if-n-gt0.false))
   | in_default-via-in_default w ↦ λ h.
-      letter_normal c.args.book.now c.requires.0.0 c.args.self.now.store c.args.self.now.roots c.args.self.now.frames c.args.p
-      c.requires.0.1
+      letter_normal c.args.book.now c.requires.can_turn.0 c.args.self.now.store c.args.self.now.roots c.args.self.now.frames c.args.p
+      c.requires.can_turn.1
       w.in_default.field-0 w.in_default.ensures.1
 ]
 

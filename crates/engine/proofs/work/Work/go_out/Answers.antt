@@ -8,13 +8,14 @@ use Rattle.engine.proofs.work.Work.go_out.Goals as goal
 pub apply-requires-clause-rewritable : goal.apply-requires-clause-rewritable
 apply-requires-clause-rewritable c =
     let (low, ready) = c.requires.can_turn in
-    let k = c.requires.count_bound.1.0 in
-    let sh = c.share_sign-p.ensures.shared in (
-      out_rewritable c.args.book.now low c.args.self.now.store c.args.self.now.roots c.args.self.now.frames c.args.v ready k.some
-          c.args.frame k.is c.gather_parts-parts.result
-          c.share_sign-p.new.self c.share_sign-p.result c.requires.count_bound.1.1 c.gather_parts-parts.ensures sh,
-      omega (arith, sh.few, sh.grown.limit, c.requires.count_bound.0),
-    )
+    let k = c.requires.frame.0 in
+    out_rewritable c.args.book.now low c.args.self.now.store c.args.self.now.roots c.args.self.now.frames c.args.v ready k.some
+    c.args.frame k.is c.gather_parts-parts.result
+    c.share_sign-p.new.self c.share_sign-p.result c.requires.frame.1 c.gather_parts-parts.ensures c.share_sign-p.ensures.shared
+
+pub apply-requires-clause-slots : goal.apply-requires-clause-slots
+apply-requires-clause-slots c =
+    let sh = c.share_sign-p.ensures.shared in omega (arith, sh.few, sh.grown.limit, c.requires.slots)
 
 pub apply-requires-clause-honest : goal.apply-requires-clause-honest
 apply-requires-clause-honest c =
@@ -24,16 +25,16 @@ apply-requires-clause-honest c =
 pub apply-requires-clause-done : goal.apply-requires-clause-done
 apply-requires-clause-done c =
     let (low, ready) = c.requires.can_turn in
-    let k = c.requires.count_bound.1.0 in
+    let k = c.requires.frame.0 in
     out_done c.args.book.now low c.args.self.now.store c.args.self.now.roots c.args.self.now.frames c.args.v ready k.some
     c.args.frame k.is c.gather_parts-parts.result
-    c.share_sign-p.new.self c.share_sign-p.result c.requires.count_bound.1.1 c.gather_parts-parts.ensures
+    c.share_sign-p.new.self c.share_sign-p.result c.requires.frame.1 c.gather_parts-parts.ensures
     c.share_sign-p.ensures.shared
 
 pub returns : goal.returns
 returns c low ready =
-    let k = c.requires.count_bound.1.0 in
+    let k = c.requires.frame.0 in
     out_turned c.args.book.now low c.args.self.now.store c.args.self.now.roots c.args.self.now.frames c.args.v ready k.some
-    c.args.frame k.is c.gather_parts-parts.result c.share_sign-p.new.self c.share_sign-p.result c.requires.count_bound.1.1
+    c.args.frame k.is c.gather_parts-parts.result c.share_sign-p.new.self c.share_sign-p.result c.requires.frame.1
     c.gather_parts-parts.ensures c.share_sign-p.ensures.shared c.apply.new.store c.truncate.new.self c.pop.new.self
     c.apply.result c.truncate.ensures c.pop.ensures c.apply.ensures

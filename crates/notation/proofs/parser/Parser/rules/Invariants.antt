@@ -1,4 +1,4 @@
--- at most 64 rules, each of at most 128 words, and the ways' row stays within its limit
+-- at most 64 rules, each of at most 128 words
 use Rattle.std.proofs.Common.{◌+◌, ◌-◌, ◌*◌, ◌≤◌, vec_len}
 use Rattle.notation.proofs.parser.Parser.rules.Given as goal
 
@@ -6,7 +6,6 @@ abbrev pub invariant-loop-self : goal.invariant-loop-self
 invariant-loop-self l = record {
   few : l.count ≤ 64;
   row : vec_len l.row ≤ vec_len l.initial.row + 128 * l.count;
-  ways : vec_len l.initial.ways ≤ 16451 → vec_len l.ways ≤ 16451;
 }
 
 abbrev pub decreases-loop-self : goal.decreases-loop-self

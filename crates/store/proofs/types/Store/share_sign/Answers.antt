@@ -1,7 +1,7 @@
 -- The key is the sign's, and there is space for it.
 use Rattle.std.proofs.Common.{◌<◌, arith, rules}
 use Rattle.store.proofs.Sounds.{sound_in}
-use Rattle.store.proofs.Sharing.{sign_of, found_at, new_is}
+use Rattle.store.proofs.Sharing.{sign_of, found_at}
 use Rattle.store.proofs.types.Store.share_sign.Goals as goal
 
 pub returns-clause-shared : goal.returns-clause-shared
@@ -19,7 +19,3 @@ returns-clause-shared c =
       inside = found.0;
       term = found.1;
     }
-
-pub returns-clause-new : goal.returns-clause-new
-returns-clause-new c i l h =
-    new_is i c.intern.result c.unwrap.result c.unwrap.ensures (c.intern.ensures.new i l h)

@@ -1,16 +1,10 @@
 -- The left side is the only root's term.
-use Rattle.std.proofs.Common.{arith}
-use Rattle.ways.proofs.Following.{kept_cut, room_alone, left_row, left_short, left_is, under_first}
+use Rattle.ways.proofs.Following.{kept_cut, left_row, left_is, under_first}
 use Rattle.ways.proofs.walk.Walk.begin.Goals as goal
 
 pub read-requires-clause-row : goal.read-requires-clause-row
 read-requires-clause-row c =
     (_, left_row c.args.self.now.book.now c.args.i c.requires _ c.rule.ensures.left)
-
-pub read-requires-clause-room : goal.read-requires-clause-room
-read-requires-clause-room c =
-    let short = left_short c.args.self.now.book.now c.args.i c.requires _ c.rule.ensures.left in
-    room_alone c.args.self.now c.truncate.new.self _ c.truncate.ensures (omega arith)
 
 pub returns : goal.returns
 returns c =

@@ -12,7 +12,7 @@ unwrap-requires c =
     let p = c.place-p.result.0 in
     let e : held a q (q.top - 1) ≡ sign c.in-Sign.field-0 (parts_in a p c.in-Sign.n) =
     ap (λ (j : ℕ). term_in a j) (sym c.place-p.ensures) ∙ c.in-Sign.ensures.2 in
-    (sign_expanded a q c.truncate.new.self c.truncate.ensures c.requires.some.0 c.requires.some.1 p c.in-Sign.field-0
+    (sign_expanded a q c.truncate.new.self c.truncate.ensures c.requires.root.0 c.requires.root.1 p c.in-Sign.field-0
     c.in-Sign.n e c.requires.has_roots c.push_parts.new.roots c.push_parts.result c.push_parts.ensures).0
 
 pub returns-in-Sign-clause-expanded : goal.returns-in-Sign-clause-expanded
@@ -22,5 +22,5 @@ returns-in-Sign-clause-expanded c =
     let p = c.place-p.result.0 in
     let e : held a q (q.top - 1) ≡ sign c.in-Sign.field-0 (parts_in a p c.in-Sign.n) =
     ap (λ (j : ℕ). term_in a j) (sym c.place-p.ensures) ∙ c.in-Sign.ensures.2 in
-    (sign_expanded a q c.truncate.new.self c.truncate.ensures c.requires.some.0 c.requires.some.1 p c.in-Sign.field-0
+    (sign_expanded a q c.truncate.new.self c.truncate.ensures c.requires.root.0 c.requires.root.1 p c.in-Sign.field-0
     c.in-Sign.n e c.requires.has_roots c.push_parts.new.roots c.push_parts.result c.push_parts.ensures).1

@@ -1,21 +1,13 @@
 -- The left side, the terms of the way, and the right side.
-use Rattle.std.proofs.Common.{None, Some, sym, subst}
+use Rattle.std.proofs.Common.{Some, sym, subst}
 use Rattle.store.specs.Stores.{held}
 use Rattle.ways.specs.Showing.{WayTold}
-use Rattle.ways.proofs.Following.{kept_then, rule_on, right_on, followed_on, right_row, right_short, way_stop, way_told}
+use Rattle.ways.proofs.Following.{kept_then, rule_on, right_on, followed_on, right_row, way_told}
 use Rattle.ways.proofs.walk.Walk.way.Goals as goal
 
 pub returns-in_err-end-clause-kept : goal.returns-in_err-end-clause-kept
 returns-in_err-end-clause-kept c =
     kept_then c.args.self.now c.begin.new.self c.follow.new.self c.begin.ensures.kept c.follow.ensures.kept
-
-pub returns-in_err-end-clause-told : goal.returns-in_err-end-clause-told
-returns-in_err-end-clause-told c =
-    let w = c.args.self.now in
-    let last = held c.follow.new.self.store.now c.follow.new.self.roots.now 0 in
-    subst (WayTold w.book.now w.ways.now c.args.from c.args.count _) (sym c.from_residual.ensures)
-    (way_stop w.book.now w.ways.now c.args.i _ c.begin.ensures.term c.args.from c.args.count last
-    (followed_on w c.begin.new.self c.begin.ensures.kept c.args.from c.args.count _ last None c.in_err-end.ensures.told))
 
 pub is_held-requires-clause-row : goal.is_held-requires-clause-row
 is_held-requires-clause-row c =
@@ -23,13 +15,6 @@ is_held-requires-clause-row c =
     let x = c.follow.new.self in
     let on = kept_then w c.begin.new.self x c.begin.ensures.kept c.follow.ensures.kept in
     (_, right_row x.book.now c.args.i (rule_on w x on c.args.i c.requires) _ c.rule.ensures.right)
-
-pub is_held-requires-clause-short : goal.is_held-requires-clause-short
-is_held-requires-clause-short c =
-    let w = c.args.self.now in
-    let x = c.follow.new.self in
-    let on = kept_then w c.begin.new.self x c.begin.ensures.kept c.follow.ensures.kept in
-    right_short x.book.now c.args.i (rule_on w x on c.args.i c.requires) _ c.rule.ensures.right
 
 pub returns-clause-kept : goal.returns-clause-kept
 returns-clause-kept c =

@@ -1,6 +1,0 @@
--- the row stays within its limit
-use Rattle.std.proofs.Common.{◌≤◌, vec_len}
-use Rattle.notation.proofs.parser.Parser.way_terms.Given as goal
-
-abbrev pub invariant-loop-count : goal.invariant-loop-count
-invariant-loop-count l = vec_len l.initial.ways ≤ 16451 → vec_len l.ways ≤ 16451
