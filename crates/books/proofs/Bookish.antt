@@ -6,8 +6,9 @@ use mathlib.Core.Option.{some}
 use lib.Seq.{take-append_seam}
 use Rattle.rewriting.specs.Terms.{nth, Term}
 use Rattle.rewriting.specs.Rules.{Eq}
-use Rattle.rewriting.specs.Books.{Sides}
-use Rattle.books.specs.Layouts.{sides, sides_of}
+use Rattle.rewriting.specs.Books.{Sides, Book as Told}
+use Rattle.books.specs.Layouts.{sides, sides_of, Laid}
+use Rattle.books.specs.declared.layout.Layout.{Layout}
 use Rattle.books.specs.Reading.{TermAt}
 use Rattle.books.specs.Rows.{row}
 use Rattle.books.proofs.Elements.{nth_getD}
@@ -15,6 +16,19 @@ use Rattle.books.proofs.Glueing.{row_length}
 use Rattle.books.proofs.Sided.{nth_left, nth_right, nth_behind, nth_front}
 use Rattle.books.specs.declared.row.Book.{Book}
 use Rattle.books.specs.Books.{told, SoundBook, sound_book_in, blank, rule_in, equation_in, RuleAt, EquationAt}
+
+-- the left side of rule i, among all sides, and where it stands in words that are laid out
+pub rule_left_nth : (b : Told) (i n : ℕ) → i < length b.rules → n ≡ 2 * length b.eqs + 2 * i →
+    nth (sides_of b) n ≡ some (get_or b.rules i blank).left
+rule_left_nth b i n low e =
+    ap (nth (sides_of b)) e ∙ (nth_behind b.eqs (sides b.rules) (2 * i)
+    ∙ nth_left b.rules i (get_or b.rules i blank) (nth_getD b.rules i blank low))
+
+pub left_laid : (s : List ℕ) (b : Told) (l : Layout) → Laid s b l → (i : ℕ) → i < length b.rules →
+    TermAt s (get_or l.starts (2 * (l.equations + i)) 0) (get_or l.starts (2 * (l.equations + i) + 1) 0) (get_or b.rules i blank).left
+left_laid s b l laid i low =
+    laid.at (2 * (l.equations + i)) (get_or b.rules i blank).left
+    (rule_left_nth b i (2 * (l.equations + i)) low (omega (arith, laid.equations)))
 
 module _ (k : Book) (sound : SoundBook k) where
   start : ℕ → ℕ
@@ -46,9 +60,7 @@ module _ (k : Book) (sound : SoundBook k) where
         let n = 2 * (k.layout.equations + i) in
         let d : n ≡ 2 * length (told k).eqs + 2 * i = omega (arith, sound.laid.equations) in
         let f : n + 1 ≡ 2 * length (told k).eqs + (2 * i + 1) = omega arith in
-        let l : nth (sides_of (told k)) n ≡ some (rule_in k i).left =
-        ap (nth (sides_of (told k))) d ∙ (nth_behind (told k).eqs (sides (told k).rules) (2 * i)
-        ∙ nth_left (told k).rules i (rule_in k i) is_rule) in
+        let l : nth (sides_of (told k)) n ≡ some (rule_in k i).left = rule_left_nth (told k) i n low d in
         let r : nth (sides_of (told k)) (n + 1) ≡ some (rule_in k i).right =
         ap (nth (sides_of (told k))) f ∙ (nth_behind (told k).eqs (sides (told k).rules) (2 * i + 1)
         ∙ nth_right (told k).rules i (rule_in k i) is_rule) in

@@ -1,9 +1,13 @@
--- The index of rules, from the last rule to the first.
+-- The index of rules, from the last rule to the first; and that it is by the signs of the book's rules.
 use Rattle.std.proofs.Common.{◌≡◌, ℕ, ◌+◌, ◌<◌, ◌≤◌, ◌≢◌, List, length, get_or, set, replicate, Some, None, Option as Maybe, sym, ap, ◌∙◌}
-use Rattle.std.proofs.Common.{refl, arith, get_or-set_other, get_or-set_same}
+use Rattle.std.proofs.Common.{refl, arith, subst, drop, ◌++◌, get_or-set_other, get_or-set_same, get_or-drop}
 use native.Mathlib.Decide.{ℕ_discrete}
 use lib.ListN.{get_or-replicate}
-use Rattle.books.specs.Indexing.{FirstFrom, IndexedFrom}
+use Rattle.rewriting.specs.Terms.{Term, letter, sign}
+use Rattle.books.specs.Rows.{row}
+use Rattle.books.specs.Reading.{TermAt}
+use Rattle.books.specs.declared.index.Index.{Index}
+use Rattle.books.specs.Indexing.{FirstFrom, IndexedFrom, Indexed, top_number}
 
 -- no rules
 pub index_none : (t : ℕ → ℕ) (n : ℕ) (N : List (Maybe ℕ)) → IndexedFrom t n n (replicate 32 None) N
@@ -40,3 +44,27 @@ module _ (t : ℕ → ℕ) (n m : ℕ) where
             FirstFrom t n (i + 1) (t i) (get_or (set N m (get_or F (t m) None)) i None)
         nexts i a b l (yes d) = rw (d, get_or-set_same N m (get_or F (t m) None) None many) (x.first (t m) low)
         nexts i a b l (no d) = rw (get_or-set_other N m i (get_or F (t m) None) None d) (x.next i (omega arith) b l)
+
+-- the number behind the tag of a term that stands in the words is that of its first symbol
+pub top_at : (ws : List ℕ) (a z : ℕ) (t : Term) → TermAt ws a z t → get_or ws (a + 1) 0 ≡ top_number t
+top_at ws a z t w = sym (get_or-drop a ws 1 0) ∙ ap (λ (vs : List ℕ). get_or vs 1 0) w.written ∙ second t
+  where
+    second : (u : Term) → get_or (row u ++ drop z ws) 1 0 ≡ top_number u
+    second (letter x) = refl
+    second (sign f ts) = refl
+
+-- an index of numbers is one of the same numbers
+module _ (t u : ℕ → ℕ) (n : ℕ) (same : (i : ℕ) → i < n → t i ≡ u i) where
+  first_same : (a f : ℕ) (o : Maybe ℕ) → FirstFrom t n a f o → FirstFrom u n a f o
+  first_same a f None h = λ j l b e. h j l b (same j b ∙ e)
+  first_same a f (Some i) h =
+      (h.0, h.1, sym (same i h.1) ∙ h.2, λ j l b e. h.3 j l b (same j (omega (arith, h.1)) ∙ e))
+
+  pub indexed_same : (x : Index) → Indexed t n x → Indexed u n x
+  indexed_same x h = record {
+    first = λ f l. first_same 0 f (get_or x.first f None) (h.first f l);
+    next = λ i a b l.
+        let e = same i b in
+        subst (λ (f : ℕ). FirstFrom u n (i + 1) f (get_or x.next i None)) e
+        (first_same (i + 1) (t i) (get_or x.next i None) (h.next i a b (omega (arith, e))));
+  }

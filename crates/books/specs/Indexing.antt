@@ -1,10 +1,20 @@
 -- The rules of a book by their top signs.
 use Rattle.std.specs.Prelude.{◌≡◌, ℕ, ◌+◌, ◌*◌, ◌<◌, ◌≤◌, ◌≢◌, List, Some, None, Option as Maybe, slice_index, slice_index_or}
+use Rattle.rewriting.specs.Terms.{Term, letter, sign}
+use Rattle.rewriting.specs.Books.{Book}
 use Rattle.books.specs.declared.index.Index.{Index}
 
 -- the number of the first symbol of rule i's left side
 abbrev pub top_word : List ℕ → List ℕ → ℕ → ℕ → ℕ
 top_word ws starts e i = slice_index ws (slice_index starts (2 * (e + i)) + 1)
+
+-- the number of a term's first symbol, and that of the left side of a book's rule i
+abbrev pub top_number : Term → ℕ
+top_number (letter x) = x
+top_number (sign f ts) = f
+
+abbrev pub rule_top : Book → ℕ → ℕ
+rule_top b i = top_number (slice_index_or b.rules i (record { left = letter 0; right = letter 0 })).left
 
 -- the first number from a on, of those below n, at which t is f; or there is none
 abbrev pub FirstFrom : (ℕ → ℕ) → ℕ → ℕ → ℕ → Maybe ℕ → Type 0

@@ -3,18 +3,22 @@ ghost use Rattle.std.specs.Prelude.{◌≡◌, ◌+◌, ◌*◌, ◌<◌, length
 ghost use Rattle.books.specs.Rows.{Reads, row};
 ghost use Rattle.books.specs.Reading.{book_of};
 ghost use Rattle.books.specs.Layouts.{Laid};
-ghost use Rattle.books.specs.Facts.{Reads-prop, Laid-prop};
+ghost use Rattle.books.specs.Indexing.{Indexed, rule_top};
+ghost use Rattle.books.specs.Facts.{Reads-prop, Laid-prop, Indexed-prop};
 
 use crate::book::read_book;
+use crate::index::{Index, index_rules};
 use crate::layout::Layout;
 
-// A book's row, and where its sides stand there.
+// A book's row, where its sides stand there, and its rules by their top signs.
 #[derive(Drop)]
 pub struct Book<'a> {
     pub words: &'a [u32],
     pub layout: Layout,
+    pub index: Index,
     pub ghost reads: { Reads words.now (book_of words.now) } by { Reads-prop words.now (book_of words.now) },
     pub ghost laid: { Laid words.now (book_of words.now) layout } by { Laid-prop words.now (book_of words.now) layout },
+    pub ghost indexed: { Indexed (rule_top (book_of words.now)) (length (book_of words.now).rules) index } by { Indexed-prop (rule_top (book_of words.now)) (length (book_of words.now).rules) index },
 }
 
 // The rows of the sides of a rule or an equation.
@@ -33,7 +37,12 @@ impl<'a> Book<'a> {
         ensures { RowRead words.now result }
     {
         let layout = read_book(words)?;
-        Some(Book { words, layout })
+        let index = index_rules(words, &layout.starts, layout.equations, layout.rules);
+        Some(Book {
+            words,
+            layout,
+            index,
+        })
     }
 
     // The signature: how many parts each sign has.

@@ -1,5 +1,5 @@
 -- Rewriting at the top of a term of the store, by the first rule whose left side matches.
-use Rattle.std.specs.Prelude.{◌≡◌, ℕ, ◌+◌, ◌<◌, ◌≤◌, List, length, Some, None, Option as Maybe}
+use Rattle.std.specs.Prelude.{◌≡◌, ℕ, ◌+◌, ◌<◌, ◌≤◌, List, length, Some, None, Option as Maybe, ◌≢◌, slice_index}
 use Rattle.std.proofs.Math.Option.{some}
 use Rattle.rewriting.specs.Terms.{nth, Term, sign, Terms, put, Fits}
 use Rattle.rewriting.specs.Rules.{Eq}
@@ -7,7 +7,9 @@ use Rattle.rewriting.specs.Order.{rank, AllDown}
 use Rattle.rewriting.specs.Machine.{Still}
 use Rattle.store.specs.declared.types.Store.{Store}
 use Rattle.store.specs.declared.types.Place.{Place}
-use Rattle.store.specs.Stores.{Sound, Grown, term_in}
+use Rattle.store.specs.declared.types.Node.TheVariants.{Sign}
+use Rattle.store.specs.Stores.{Sound, Grown, term_in, part_in, Shows}
+use Rattle.books.specs.Indexing.{rule_top}
 use Rattle.books.specs.declared.row.Book.{Book}
 use Rattle.engine.specs.declared.types.Bindings.{Bindings}
 use Rattle.books.specs.Books.{told, rule_in}
@@ -19,9 +21,16 @@ pub record Rewritable (k : Book) (st : Store) (p : Place) : Type 0 where
   pub inside : p.0 < st.count
   pub fits : Fits (told k).parts (term_in st p.0)
 
--- its top sign is f
-abbrev pub TopSign : Store → Place → ℕ → Type 0
-TopSign st p f = (us : Terms) × (term_in st p.0 ≡ sign f us)
+-- rule i has the sign of the term at a place at its top, which has n parts
+pub record Candidate (k : Book) (st : Store) (p : Place) (n i : ℕ) : Type 0 where
+  pub low : i < length (told k).rules
+  pub shows : Shows st p.0 (Sign (rule_top (told k) i) n)
+
+-- the first part of the left side in the words has a sign, and the first part of the term at a place has another
+pub record FirstPartsApart (ws : List ℕ) (st : Store) (p : Place) : Type 0 where
+  pub long : 4 ≤ length ws
+  pub is_sign : slice_index ws 2 ≡ 1
+  pub other : (us : Terms) → term_in st (part_in st p.0 0) ≢ sign (slice_index ws 3) us
 
 -- a rule with what is put for the letters of its left side, or that no rule can be used
 abbrev pub RuleFound : Book → Store → Place → Bindings → Maybe ℕ → Type 0

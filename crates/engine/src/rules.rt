@@ -1,10 +1,11 @@
 // Rewriting at the top of a term, by the first rule that matches.
 // Stays in the contracts that the rules can be used at p: it relates a book, a store and a place, which are lent apart.
-ghost use Rattle.std.specs.Prelude.{◌+◌, ◌<◌, ◌≤◌, length};
-ghost use Rattle.store.specs.Stores.{term_in};
+ghost use Rattle.std.specs.Prelude.{◌≡◌, ◌+◌, ◌<◌, ◌≤◌, ◌≢◌, false};
+ghost use Rattle.rewriting.specs.Terms.{Terms, sign};
+ghost use Rattle.store.specs.Stores.{term_in, arity_in};
 ghost use Rattle.books.specs.Books.{told, rule_in};
 ghost use Rattle.engine.specs.Matching.{given, MatchedOn, nothing};
-ghost use Rattle.engine.specs.Rewriting.{Rewritable, Rewritten, RuleFound, TopSign};
+ghost use Rattle.engine.specs.Rewriting.{Rewritable, Rewritten, RuleFound, Candidate, FirstPartsApart};
 
 use crate::instance::row_instance;
 use crate::matching::bind_pattern;
@@ -13,21 +14,41 @@ use books::Book;
 use books::words::{Symbol, symbol_at};
 use store::{Node, Place, Store};
 
-// Matches the left side of rule i with the term at p, whose top sign is f. Most rules fail at that sign already.
+// Whether the term at a place has the sign g at its top.
+fn has_sign(store: &Store, q: Place, g: u32) -> bool
+    requires { q.0 < store.now.count }
+    ensures { result ≡ false → (us : Terms) → term_in store.now q.0 ≢ sign g us }
+{
+    matches!(store.view(q), Node::Sign(f, _) if f == g)
+}
+
+// Whether the first part of a left side is a letter, or has the sign of the first part of the term at p. Most rules with the term's top
+// sign that don't match fail here already.
+fn first_parts_agree(left: &[u32], store: &Store, p: Place) -> bool
+    requires { (p.0 < store.now.count) × (0 < arity_in store.now p.0) }
+    ensures { result ≡ false → FirstPartsApart left.now store.now p }
+{
+    match symbol_at(left, 2) {
+        Some(Symbol::Sign(g)) => has_sign(store, store.part(p, 0), g),
+        _ => true,
+    }
+}
+
+// Matches the left side of rule i with the term at p, which have the same top sign, of n parts.
 // Stays a bool with what is bound behind a reference, as at `bind_pattern`.
 fn match_rule(
     book: &Book,
     i: usize,
     store: &Store,
     p: Place,
-    f: u32,
+    n: usize,
     bindings: &mut Bindings,
 ) -> bool
-    requires { (Rewritable book.now store.now p) × ((i < length (told book.now).rules) × (TopSign store.now p f)) }
+    requires { (Rewritable book.now store.now p) × (Candidate book.now store.now p n i) }
     ensures { MatchedOn store.now nothing (rule_in book.now i).left (term_in store.now p.0) (given result bindings.new) }
 {
     let left = book.rule(i).left;
-    if symbol_at(left, 0) != Some(Symbol::Sign(f)) {
+    if n > 0 && !first_parts_agree(left, store, p) {
         return false;
     }
     *bindings = Bindings::new();
@@ -40,14 +61,16 @@ fn find_rule(book: &Book, store: &Store, p: Place, bindings: &mut Bindings) -> O
     ensures { RuleFound book.now store.now p bindings.new result }
 {
     // Stays `let .. else`: what stands at a place is an enum with data, and no Option.
-    let Node::Sign(f, _) = store.view(p) else {
+    let Node::Sign(f, n) = store.view(p) else {
         return None;
     };
-    // Stays a loop over numbers: tried `find`: a proof learns nothing of what its closure has put behind `bindings`.
-    for i in 0..book.layout.rules() {
-        if match_rule(book, i, store, p, f, bindings) {
+    let mut next = book.index.first_with(f);
+    // Stays a while: each rule says which is the next one with its top sign.
+    while let Some(i) = next {
+        if match_rule(book, i, store, p, n, bindings) {
             return Some(i);
         }
+        next = book.index.next_like(i);
     }
     None
 }

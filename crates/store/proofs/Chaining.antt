@@ -1,12 +1,12 @@
 -- Chains: searching along them, and what keeps them or makes them longer.
-use Rattle.std.proofs.Common.{◌≡◌, ℕ, zero, suc, ◌+◌, ◌-◌, ◌/◌, ◌<◌, ◌≤◌, List, length, get_or, sym, refl, ap, ◌∙◌, subst, ⊎_elim}
+use Rattle.std.proofs.Common.{◌≡◌, ℕ, zero, suc, ◌+◌, ◌-◌, ◌/◌, ◌%◌, ◌<◌, ◌≤◌, List, length, get_or, sym, refl, ap, ◌∙◌, subst, ⊎_elim}
 use Rattle.std.proofs.Common.{eq-or-lt_of_le, arith}
 use lib.Bits.{bit_and}
 use Rattle.store.specs.declared.keys.Key.{Key}
 use Rattle.store.specs.Cells.{cell, HasSlot}
 use Rattle.store.specs.Slots.{tag_of, arity_of, kind_of, kind_at, part_at, link_at, last_at, Shape, Alike}
 use Rattle.store.specs.Keys.{FitsIn, Added}
-use Rattle.store.specs.Chains.{mix_of, hash_of, bucket_of, bucket_at, key_bucket, Last, Chains, Holds, Searched, Pushed}
+use Rattle.store.specs.Chains.{mix_of, hash_of, bucket_by, bucket_of, bucket_at, key_bucket, Last, Chains, Holds, Searched, Pushed}
 use Rattle.store.proofs.Cases.{le_or_lt, eq_or, last_or_below}
 use Rattle.store.proofs.Decoding.{alike}
 
@@ -16,11 +16,28 @@ hash_same h p q zero e = refl
 hash_same h p q (suc n) e =
     ap (λ (x : ℕ). mix_of x (p n)) (hash_same h p q n (λ m l. e m (omega arith))) ∙ ap (mix_of (hash_of h q n)) (e n (omega arith))
 
+parts_bucket : (mask k : ℕ) (p q : ℕ → ℕ) (n : ℕ) → ((m : ℕ) → m < n → p m ≡ q m) → bucket_by mask k p n ≡ bucket_by mask k q n
+parts_bucket mask k p q zero h = refl
+parts_bucket mask k p q (suc n) h =
+    ap (λ (x : ℕ). bit_and ((x + hash_of (mix_of k 0) (λ i. p (suc i)) n / 4294967296) % 18446744073709551616) mask) (h 0 (omega arith))
+    ∙ ap (λ (x : ℕ). bit_and ((q 0 + x / 4294967296) % 18446744073709551616) mask)
+    (hash_same (mix_of k 0) (λ i. p (suc i)) (λ i. q (suc i)) n (λ m l. h (suc m) (omega arith)))
+
 pub bucket_same : (mask k j : ℕ) (p q : ℕ → ℕ) → k ≡ j → ((m : ℕ) → m < arity_of k → p m ≡ q m) → bucket_of mask k p ≡ bucket_of mask j q
 unfolding bucket_of
-bucket_same mask k j p q e h =
-    ap (λ (x : ℕ). bit_and (x / 4294967296) mask) (hash_same k p q (arity_of k) h)
-    ∙ ap (λ (x : ℕ). bit_and (hash_of x q (arity_of x) / 4294967296) mask) e
+bucket_same mask k j p q e h = parts_bucket mask k p q (arity_of k) h ∙ ap (λ (x : ℕ). bucket_by mask x q (arity_of x)) e
+
+-- the bucket as it is found: by the kind alone where there are no parts, else by the first and a hash of the others
+pub bucket_no_parts : (mask k n : ℕ) (p : ℕ → ℕ) → n ≡ 0 → bit_and (mix_of k 0 / 4294967296) mask ≡ bucket_by mask k p n
+bucket_no_parts mask k zero p e = refl
+bucket_no_parts mask k (suc n) p e = absurd (omega arith)
+
+pub bucket_parts : (mask k n g m : ℕ) (p q : ℕ → ℕ) → n ≡ suc m → ((i : ℕ) → i < m → q i ≡ p (suc i)) → g ≡ hash_of (mix_of k 0) q m →
+    bit_and ((p 0 + g / 4294967296) % 18446744073709551616) mask ≡ bucket_by mask k p n
+bucket_parts mask k n g m p q e o h =
+    ap (λ (x : ℕ). bit_and ((p 0 + x / 4294967296) % 18446744073709551616) mask)
+    (h ∙ hash_same (mix_of k 0) q (λ i. p (suc i)) m o)
+    ∙ ap (bucket_by mask k p) (sym e)
 
 holds_bucket : (mask : ℕ) (ws : List ℕ) (j : ℕ) (key : Key) → Holds ws j key → bucket_at mask ws j ≡ key_bucket mask key
 holds_bucket mask ws j key o = bucket_same mask (kind_at ws j) (kind_of key.head) (λ k. part_at ws j k) (λ k. get_or key.parts k 0)

@@ -5,17 +5,22 @@ use Rattle.store.specs.Cells.{cell, HasSlot}
 use Rattle.store.specs.Slots.{kind_of, flag_of, arity_of, kind_at, part_at, link_at, last_at, note_at, term_of, Shared}
 use Rattle.store.specs.Keys.{key_term}
 
--- the hash of a kind k and its parts p 0, p 1, ..: each is added, and the sum multiplied by 2^64 over the golden ratio
+-- a hash h with a number added, and the sum multiplied by 2^64 over the golden ratio
 unfoldable pub mix_of : ℕ → ℕ → ℕ
 mix_of h x = (h + x) % 18446744073709551616 * 11400714819323198485 % 18446744073709551616
 
+-- the hash h with the numbers p 0, .., p (n - 1)
 abbrev pub hash_of : ℕ → (ℕ → ℕ) → ℕ → ℕ
-hash_of k p zero = mix_of k 0
-hash_of k p (suc n) = mix_of (hash_of k p n) (p n)
+hash_of h p zero = h
+hash_of h p (suc n) = mix_of (hash_of h p n) (p n)
 
--- the bucket: the hash's upper bits, below the mask
+-- the bucket of a kind k with n parts: the first part and the upper bits of the hash of all else, below the mask
+abbrev pub bucket_by : ℕ → ℕ → (ℕ → ℕ) → ℕ → ℕ
+bucket_by mask k p zero = bit_and (mix_of k 0 / 4294967296) mask
+bucket_by mask k p (suc n) = bit_and ((p 0 + hash_of (mix_of k 0) (λ i. p (suc i)) n / 4294967296) % 18446744073709551616) mask
+
 unfoldable pub bucket_of : ℕ → ℕ → (ℕ → ℕ) → ℕ
-bucket_of mask k p = bit_and (hash_of k p (arity_of k) / 4294967296) mask
+bucket_of mask k p = bucket_by mask k p (arity_of k)
 
 abbrev pub bucket_at : ℕ → List ℕ → ℕ → ℕ
 bucket_at mask ws i = bucket_of mask (kind_at ws i) (λ k. part_at ws i k)

@@ -1,11 +1,11 @@
 // Chains of slots by hash: finding the slot of a key, and adding one.
 // Stays a table of its own: its slots and buckets lie in lent words, and no heap is used here.
 // Stays in the contracts that a key fits: its parts are below a count that the key doesn't hold.
-ghost use Rattle.std.specs.Prelude.{◌≡◌, ◌≤◌, true, false, None};
+ghost use Rattle.std.specs.Prelude.{◌≡◌, ◌≤◌, true, false, None, length, slice_index};
 ghost use Rattle.store.specs.Cells.{HasSlot};
 ghost use Rattle.store.specs.Slots.{Shared};
 ghost use Rattle.store.specs.Keys.{FitsIn};
-ghost use Rattle.store.specs.Chains.{mix_of, key_bucket, Chains, Found, Holds, Pushed, OneMore};
+ghost use Rattle.store.specs.Chains.{mix_of, hash_of, key_bucket, Chains, Found, Holds, Pushed, OneMore};
 
 use crate::keys::Key;
 use crate::slots::{LAST, LINK, NOTE, arity, get, kind, kind_at, part, put, put_slot};
@@ -23,17 +23,28 @@ fn mix(h: usize, x: usize) -> usize
     h.wrapping_add(x).wrapping_mul(GOLDEN)
 }
 
-// The bucket of a key.
+// A hash with parts added.
+fn hash(start: usize, parts: &[usize]) -> usize
+    ensures { result ≡ hash_of start (λ k. slice_index parts.now k) (length parts.now) }
+{
+    let mut h = start;
+    for &p in parts {
+        h = mix(h, p);
+    }
+    h
+}
+
+// The bucket of a key. What differs only in the first part goes to neighbouring buckets, so that towers and lists stay in the cache.
 fn bucket(mask: usize, key: &Key) -> usize
     ensures is { result ≡ key_bucket mask key.now }
     ensures low { result ≤ mask }
 {
     let kind = kind(key.head);
-    let mut h = mix(kind, 0);
-    for &p in &key.parts[..arity(kind)] {
-        h = mix(h, p);
+    let h = mix(kind, 0);
+    match &key.parts[..arity(kind)] {
+        [] => h >> WORD_BITS & mask,
+        [first, rest @ ..] => first.wrapping_add(hash(h, rest) >> WORD_BITS) & mask,
     }
-    h >> WORD_BITS & mask
 }
 
 // Whether slot i is what the key says.

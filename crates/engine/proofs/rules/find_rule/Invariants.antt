@@ -1,9 +1,10 @@
--- None of the first i rules matches.
-use Rattle.std.proofs.Common.{◌≡◌, ℕ, ◌<◌}
-use Rattle.rewriting.specs.Terms.{Term, put}
-use Rattle.store.specs.Stores.{term_in}
-use Rattle.books.specs.Books.{rule_in}
+-- None of the rules before the next one matches, and it has the term's sign at its top; where there is no next one, none matches at all.
+use Rattle.std.proofs.Common.{◌≡◌, ℕ, ◌-◌, ◌<◌, ◌≢◌, length, Some, None, Option as Maybe}
+use Rattle.engine.proofs.Trying.{Tried, left_from}
 use Rattle.engine.proofs.rules.find_rule.Given as goal
 
-abbrev pub invariant-loop-i : goal.invariant-loop-i
-invariant-loop-i l = (k : ℕ) → k < l.i → (s : ℕ → Term) → put s (rule_in l.book k).left ≡ term_in l.store l.p.0 → ⊥
+abbrev pub invariant-loop-next : goal.invariant-loop-next
+invariant-loop-next l = Tried l.book l.store l.p l.f l.next
+
+abbrev pub decreases-loop-next : goal.decreases-loop-next
+decreases-loop-next l = left_from l.book.layout.rules l.next
