@@ -1,14 +1,13 @@
 #!/bin/sh
 # Builds a program, which is quick where nothing has changed, and runs it.
-#   ./run.sh [OPTIONS] [FILE]                reads a book, by default books/sums.book, and says what it has read: the program judge
-#   ./run.sh judge_in_full [OPTIONS] [FILE]  judges a book
-#   ./run.sh tell [OPTIONS] BOOK PAIRS       compares the pairs of terms in PAIRS, or on the standard input, by a book
+#   ./run.sh [judge] [OPTIONS] [FILE]   judges a book, by default books/sums.book
+#   ./run.sh tell [OPTIONS] BOOK PAIRS  compares the pairs of terms in PAIRS, or on the standard input, by a book
 set -eu
 cd "$(dirname "$0")"
 . ./toolchain.sh
 program=judge
 case "${1:-}" in
-judge_in_full | tell)
+judge | tell)
     program=$1
     shift
     ;;

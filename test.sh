@@ -19,7 +19,7 @@ if grep -q '^rt: ok.*, [0-9][0-9]* bad' "$folder/log"; then
     status=1
 fi
 
-judge=crates/judge_in_full/out/judge_in_full
+judge=crates/judge/out/judge
 tell=crates/tell/out/tell
 tests/books.sh "$judge" || status=1
 if [ -x tests/outside.sh ] && command -v rustc >/dev/null; then

@@ -1,5 +1,5 @@
 #!/usr/bin/env python3
-"""Writes a book that asks much of judging, as rows: bench/large_book.py [LETTERS [SEED]] | crates/judge_in_full/out/judge_in_full --rows
+"""Writes a book that asks much of judging, as rows: bench/large_book.py [LETTERS [SEED]] | crates/judge/out/judge --rows
 
 It has 64 rules, the most that there may be. Two say that a part `zero` makes all `zero`; 62 have left sides of 31 letters and signs, all of
 one sign with two parts, in random shapes, so that almost every rule meets every other at each of 15 places; their right side is `zero`.

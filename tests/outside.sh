@@ -1,7 +1,7 @@
 #!/bin/sh
 # Checks from outside: tests/outside.sh JUDGE TELL [COUNT]
-# Makes COUNT books (300 if not said), asks the programs JUDGE and TELL and a second judge that shares nothing with them, and
-# compares. The second judge tries everything within nine letters and signs (tests/brute); where that is too little to tell, it says
+# Makes COUNT books (300 if not said), and takes the example books besides; asks the programs JUDGE and TELL and a second judge that shares
+# nothing with them, and compares. The second judge tries everything within nine letters and signs (tests/brute); where that is too little to tell, it says
 # which answers are left. The status is 1 if any two answers disagree. Needs rustc.
 set -eu
 [ $# -ge 2 ] || {
@@ -16,6 +16,7 @@ folder=$(mktemp -d)
 trap 'rm -rf "$folder"' EXIT
 rustc --edition 2024 -O -o "$folder/brute" "$here/brute/main.rs"
 "$folder/brute" make "$folder" "$count"
+"$folder/brute" take "$folder" "$here"/../books/*.book
 
 # Each line: what is compared, the second judge's answer, the program's answer, the book; with tabs between.
 answers() {

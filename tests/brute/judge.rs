@@ -8,9 +8,15 @@ use std::rc::Rc;
 
 pub const NINE: u64 = 9;
 
-// What is followed: terms up to this size, and so many of them.
+// What is followed: terms up to this size, and so many of them; but fewer where the answer is certain without all terms of nine letters and
+// signs, or where these are too many anyway.
 const MOST_SIZE: u64 = 400;
 const MOST_TERMS: usize = 600_000;
+const FEWER_TERMS: usize = 100_000;
+const FEW_SIGNS: usize = 4;
+
+// Where there are more terms of a size, no larger ones are made.
+const MOST_OF_SIZE: usize = 50_000;
 
 #[derive(Clone, PartialEq, Debug)]
 pub enum Verdict {
@@ -53,11 +59,12 @@ pub struct Follower {
     rules: Vec<Sides>,
     steps: HashMap<Term, Rc<[Term]>>,
     ends: HashMap<Term, Ends>,
+    most: usize,
 }
 
 impl Follower {
     pub fn new(rules: Vec<Sides>) -> Self {
-        Follower { rules, steps: HashMap::new(), ends: HashMap::new() }
+        Follower { rules, steps: HashMap::new(), ends: HashMap::new(), most: MOST_TERMS }
     }
 
     /// All terms to which one step leads.
@@ -82,11 +89,16 @@ impl Follower {
         all
     }
 
+    /// Whether no more terms are followed than those that are known.
+    fn is_full(&self) -> bool {
+        self.ends.len() > self.most
+    }
+
     pub fn ends(&mut self, terms: &mut Terms, t: Term) -> Ends {
         if let Some(&known) = self.ends.get(&t) {
             return known;
         }
-        if terms.size(t) > MOST_SIZE || self.ends.len() > MOST_TERMS {
+        if terms.size(t) > MOST_SIZE || self.is_full() {
             return Ends::Unknown;
         }
         let mut found = None;
@@ -256,16 +268,33 @@ fn one_end(terms: &mut Terms, book: &Book, follower: &mut Follower) -> Option<bo
             Ends::Unknown => certain = false,
         }
     }
+    if certain || book.parts.len() > FEW_SIGNS {
+        follower.most = FEWER_TERMS;
+    }
+    let several = some_has_several(terms, book, follower);
+    follower.most = MOST_TERMS;
+    assert!(!(several && certain), "a term with two ends, though all terms at which two rules meet have one");
+    (!several).then_some(certain)
+}
+
+// Whether a term of up to nine letters and signs is found that has several ends.
+fn some_has_several(terms: &mut Terms, book: &Book, follower: &mut Follower) -> bool {
     let mut enumerator = Enumerator { parts: &book.parts, known: HashMap::new() };
     for size in 1..=NINE {
-        for &(t, _) in enumerator.of_size(terms, size, 0).iter() {
+        let all = enumerator.of_size(terms, size, 0);
+        for &(t, _) in all.iter() {
             if follower.ends(terms, t) == Ends::Several {
-                assert!(!certain, "a term with two ends, though all terms at which two rules meet have one");
-                return None;
+                return true;
+            }
+            if follower.is_full() {
+                return false;
             }
         }
+        if all.len() > MOST_OF_SIZE {
+            return false;
+        }
     }
-    Some(certain)
+    false
 }
 
 // What is to be said if all that comes from one term meets, if that can be told; `Apart` if a side of an equation shows the contrary.

@@ -2,6 +2,7 @@
 //! signs.
 //!
 //!     brute make FOLDER COUNT          writes COUNT books FOLDER/N.rows with ways, and pairs of terms FOLDER/N.pairs
+//!     brute take FOLDER TEXT..         the same for the books in the texts, by their names, in the readable form
 //!     brute judge BOOK                 prints the answer on a book: `undecided`, with the answers that are left, if nine are too few
 //!     brute tell BOOK PAIRS            prints an answer for each pair
 mod compare;
@@ -11,8 +12,10 @@ mod make;
 mod order;
 mod rows;
 mod terms;
+mod text;
 
 use judge::Judged;
+use std::path::Path;
 use std::{env, fs, process, thread};
 use terms::Terms;
 
@@ -51,6 +54,13 @@ fn run() -> Result<(), String> {
     let mut terms = Terms::default();
     match arguments[..] {
         ["make", folder, count] => make::make(folder, count.parse().map_err(|_| "COUNT is no number")?),
+        ["take", folder, ref texts @ ..] => {
+            for text in texts {
+                let name = Path::new(text).file_stem().and_then(|name| name.to_str()).ok_or("no name")?;
+                make::take(folder, name, &read(text)?).map_err(|e| format!("{text}: {e}"))?;
+            }
+            Ok(())
+        }
         ["judge", book] => {
             println!("{}", judge_file(&mut terms, book)?.verdict);
             Ok(())
@@ -62,7 +72,7 @@ fn run() -> Result<(), String> {
             }
             Ok(())
         }
-        _ => Err("usage: brute make FOLDER COUNT | judge BOOK | tell BOOK PAIRS".into()),
+        _ => Err("usage: brute make FOLDER COUNT | take FOLDER TEXT.. | judge BOOK | tell BOOK PAIRS".into()),
     }
 }
 

@@ -1,9 +1,11 @@
-//! Makes random books of few signs, always the same ones, with ways and pairs of terms. Some get a fault on purpose.
+//! Makes random books of few signs, always the same ones, with ways and pairs of terms. Some get a fault on purpose. And makes pairs for
+//! books that there are.
 use crate::compare::{Links, fillers};
 use crate::judge::renamed;
 use crate::order::Order;
 use crate::rows::{Book, Sides, Ways, write_book, write_term, write_ways};
 use crate::terms::{Bindings, Node, Term, Terms};
+use crate::text::read_text;
 use std::fs;
 
 const PAIRS: usize = 8;
@@ -85,18 +87,39 @@ pub struct Maker {
     pub ways: Ways,
 }
 
+/// Writes `count` random books.
 pub fn make(folder: &str, count: usize) -> Result<(), String> {
     for n in 0..count {
         let book = Book { parts: Vec::new(), ranks: Vec::new(), equations: Vec::new(), rules: Vec::new() };
         let mut maker = Maker { random: Random(n as u64), terms: Terms::default(), book, ways: Vec::new() };
         let (kind, variant) = kind_of(n);
         let (rows, pairs) = maker.make(kind, variant);
-        for (ending, text) in [("rows", rows), ("pairs", pairs)] {
-            let name = format!("{folder}/{n:03}.{ending}");
-            fs::write(&name, text).map_err(|e| format!("{name}: {e}"))?;
-        }
+        write(folder, &format!("{n:03}"), &rows, &pairs)?;
     }
     Ok(())
+}
+
+/// Writes the book that a text in the readable form gives, with pairs of its terms.
+pub fn take(folder: &str, name: &str, text: &str) -> Result<(), String> {
+    let mut terms = Terms::default();
+    let (book, ways) = read_text(&mut terms, text)?;
+    let seed = text.bytes().fold(0, |n: u64, byte| n.wrapping_mul(31).wrapping_add(u64::from(byte)));
+    let mut maker = Maker { random: Random(seed), terms, book, ways };
+    let pairs = maker.pairs();
+    let (book, ways) = (write_book(&maker.terms, &maker.book), write_ways(&maker.terms, &maker.ways));
+    write(folder, name, &rows(&book, &ways), &pairs)
+}
+
+fn write(folder: &str, name: &str, rows: &str, pairs: &str) -> Result<(), String> {
+    for (ending, text) in [("rows", rows), ("pairs", pairs)] {
+        let name = format!("{folder}/{name}.{ending}");
+        fs::write(&name, text).map_err(|e| format!("{name}: {e}"))?;
+    }
+    Ok(())
+}
+
+fn rows(book: &[u32], ways: &[u32]) -> String {
+    format!("{}\n{}\n", line(book), line(ways))
 }
 
 fn line(words: &[u32]) -> String {
@@ -133,7 +156,7 @@ impl Maker {
             Kind::Broken => self.garble_ways(&mut ways, variant),
             _ => {}
         }
-        (format!("{}\n{}\n", line(&book), line(&ways)), pairs)
+        (rows(&book, &ways), pairs)
     }
 
     // 2 to 4 signs, at least one of them with parts.

@@ -168,61 +168,42 @@ mod tests {
     use std::alloc::Global;
     use std::test::Fail;
 
-    // Arguments of `judge`, one to a line, and what is told of them.
-    const OF_JUDGE: [(&str, &str); 9] = [
-        ("", "judge: rows false, work 851968, no file"),
-        (
-            "--rows\nsums.book\n--work\n20000",
-            "judge: rows true, work 20000, sums.book",
-        ),
-        ("-", "judge: rows false, work 851968, -"),
-        ("--rows\n--help\n--foo", "help"),
-        ("--version", "version"),
-        ("--foo", "there is no option `--foo`; see --help"),
-        ("a\nb", "one file is judged at a time, and `b` is a second"),
-        ("a\n--work", "--work wants a number after it"),
-        (
-            "--work\n851969",
-            "--work wants a number up to 851968, and `851969` is none",
-        ),
-    ];
-
     // A program, its arguments, one to a line, and what is told of them.
     const ASKED: [(Program, &str, &str); 14] = [
         (
-            Program::JudgeInFull,
+            Program::Judge,
             "",
             "rows false, work 851968, no file, no file",
         ),
         (
-            Program::JudgeInFull,
+            Program::Judge,
             "--rows\nsums.book\n--work\n20000",
             "rows true, work 20000, sums.book, no file",
         ),
         (
-            Program::JudgeInFull,
+            Program::Judge,
             "-",
             "rows false, work 851968, -, no file",
         ),
-        (Program::JudgeInFull, "--rows\n--help\n--foo", "help"),
+        (Program::Judge, "--rows\n--help\n--foo", "help"),
         (Program::Tell, "--version", "version"),
         (
-            Program::JudgeInFull,
+            Program::Judge,
             "--foo",
             "there is no option `--foo`; see --help",
         ),
         (
-            Program::JudgeInFull,
+            Program::Judge,
             "a\nb",
-            "`b` is one file too many; see --help",
+            "one file is judged at a time, and `b` is a second",
         ),
         (
-            Program::JudgeInFull,
+            Program::Judge,
             "a\n--work",
             "--work wants a number after it",
         ),
         (
-            Program::JudgeInFull,
+            Program::Judge,
             "--work\n851969",
             "--work wants a number up to 851968, and `851969` is none",
         ),
@@ -250,7 +231,7 @@ mod tests {
         match read_arguments(program, words.as_slice()) {
             Ok(Asked::Help) => Ok(String::from_str(heap, "help")?),
             Ok(Asked::Version) => Ok(String::from_str(heap, "version")?),
-            Ok(Asked::Run(options)) => Ok(shown(heap, program, options)?),
+            Ok(Asked::Run(options)) => Ok(shown(heap, options)?),
             Err(refusal) => Ok(refusal.to_string(heap)?),
         }
     }
@@ -264,23 +245,10 @@ mod tests {
         }
     }
 
-    fn shown(heap: Global, program: Program, options: Options<'_>) -> Result<String, Fail> {
+    fn shown(heap: Global, options: Options<'_>) -> Result<String, Fail> {
         let Options { rows, work, .. } = options;
         let (book, pairs) = (word(options.book), word(options.pairs));
-        if program == Program::Judge {
-            Ok(format!(in heap; "judge: rows {rows}, work {work}, {book}")?)
-        } else {
-            Ok(format!(in heap; "rows {rows}, work {work}, {book}, {pairs}")?)
-        }
-    }
-
-    #[test]
-    fn arguments_of_judge(rt: HostRuntime) -> Result<(), Fail> {
-        for (lines, wanted) in OF_JUDGE.iter() {
-            let found = asked(rt.alloc(), Program::Judge, lines)?;
-            assert_eq!(rt; found.as_str(), *wanted);
-        }
-        Ok(())
+        Ok(format!(in heap; "rows {rows}, work {work}, {book}, {pairs}")?)
     }
 
     #[test]

@@ -7,11 +7,10 @@ use std::alloc::AllocError;
 use std::process::ExitCode;
 use std::{env, fmt, io};
 
-// `judge` and `judge_in_full` take one file, a book; `tell` takes a book and then pairs of terms.
+// `judge` takes one file, a book; `tell` takes a book and then pairs of terms.
 #[derive(Clone, Copy, PartialEq, Eq)]
 pub enum Program {
     Judge,
-    JudgeInFull,
     Tell,
 }
 
@@ -19,7 +18,6 @@ impl fmt::Display for Program {
     fn fmt<W: fmt::Write>(&self, f: &mut fmt::Formatter<W>) -> fmt::Result {
         f.write_str(match self {
             Program::Judge => "judge",
-            Program::JudgeInFull => "judge_in_full",
             Program::Tell => "tell",
         })
     }

@@ -1,8 +1,11 @@
-// Judges a book of equations and rules. For now it reads the book, and says what it has read.
+// Judges a book: whether its rules settle its equations.
 #![tactic(auto)]
 
+use answers::{explanation, judged_line};
 use arguments::{Options, Program, Stopped, run};
-use inputs::read_book;
+use equal::{Judged, judge};
+use inputs::{Source, read_book};
+use std::alloc::AllocError;
 use std::process::ExitCode;
 
 const HELP: &str = "Usage: judge [--rows] [--work N] [FILE]
@@ -13,20 +16,27 @@ Judges the book of equations and rules in FILE, or on the standard input where t
   --version   print the version
 The readable form and the answers are explained in docs/BOOKS.md.";
 
-fn judge(rt: &HostRuntime, options: Options<'_>) -> Result<(), Stopped> {
+// The answer on a book, found with so many work words.
+fn answer(rt: &HostRuntime, source: &Source, work: usize) -> Result<Judged, AllocError> {
+    let mut words = vec![in rt.alloc(); 0u32; work]?;
+    Ok(judge(source.words(), source.ways(), words.as_mut_slice()))
+}
+
+// Prints the answer on a line, and what it says.
+fn judge_file(rt: &HostRuntime, options: Options<'_>) -> Result<(), Stopped> {
     let source = read_book(rt, Program::Judge, &options)?;
-    match books::read_book(source.words()) {
-        None => println!(rt; "no book")?,
-        Some(layout) => {
-            let signs = layout.signs();
-            let equations = layout.equations();
-            let rules = layout.rules();
-            println!(rt; "a book of {signs} signs, {equations} equations, {rules} rules")?;
-        }
-    }
+    let answer = answer(rt, &source, options.work)?;
+    let line = judged_line(rt.alloc(), answer)?;
+    let words = explanation(rt.alloc(), answer, source.named())?;
+    println!(rt; "{line}\n{words}")?;
     Ok(())
 }
 
 fn main(rt: HostRuntime) -> ExitCode {
-    run(&rt, Program::Judge, HELP, |options| judge(&rt, options))
+    run(
+        &rt,
+        Program::Judge,
+        HELP,
+        |options| judge_file(&rt, options),
+    )
 }
