@@ -180,11 +180,7 @@ mod tests {
             "--rows\nsums.book\n--work\n20000",
             "rows true, work 20000, sums.book, no file",
         ),
-        (
-            Program::Judge,
-            "-",
-            "rows false, work 851968, -, no file",
-        ),
+        (Program::Judge, "-", "rows false, work 851968, -, no file"),
         (Program::Judge, "--rows\n--help\n--foo", "help"),
         (Program::Tell, "--version", "version"),
         (
