@@ -1,6 +1,6 @@
 -- Reading a row from its end on: the roots above the first ones hold the terms from symbol k on.
-use Rattle.std.proofs.Common.{◌≡◌, ℕ, suc, ◌+◌, ◌-◌, ◌*◌, ◌<◌, ◌≤◌, List, ◌∷◌, ◌++◌, length, get_or, drop, Ok, Err, sym, refl, ap, ◌∙◌, subst}
-use Rattle.std.proofs.Common.{◌%◌, [], ⊎_elim, append-nil, arith, rules, get_or-drop, Some, None, Option, IsSome}
+use Rattle.std.proofs.Common.{◌≡◌, ℕ, suc, ◌+◌, ◌-◌, ◌*◌, ◌<◌, ◌≤◌, List, ◌∷◌, length, get_or, drop, Ok, Err, sym, refl, ap, ◌∙◌, subst}
+use Rattle.std.proofs.Common.{◌%◌, ◌++◌, [], ⊎_elim, append-nil, arith, rules, get_or-drop, Some, None, Option, IsSome}
 use Rattle.std.proofs.lemmas.List.{nil_from_length, append_assoc, length-append, get_or_append_left, get_or-append-add}
 use mathlib.Core.Option.{some}
 use Rattle.rewriting.specs.Terms.{nth, Term, letter, sign, Terms, none1, and1, count, size, sizes, AnyLetter, AllOver}

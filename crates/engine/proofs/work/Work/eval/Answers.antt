@@ -12,8 +12,8 @@ apply-requires-clause-rewritable c =
 pub apply-requires-clause-done : goal.apply-requires-clause-done
 apply-requires-clause-done c = elim c.in_default.branch [
   | in_default-via-in-Sign+else-n-gt0 w ↦
-      leaf_normal c.args.book.now c.requires.can_turn.0 c.args.self.now.store c.args.self.now.roots c.args.self.now.frames c.args.p c.requires.can_turn.1
-      w.in-Sign.f w.in-Sign.n w.in-Sign.ensures.2 (omega (arith, w.if-n-gt0.false))
+      leaf_normal c.args.book.now c.requires.can_turn.0 c.args.self.now.store c.args.self.now.roots c.args.self.now.frames c.args.p
+      c.requires.can_turn.1 w.in-Sign.f w.in-Sign.n w.in-Sign.ensures.2 (omega (arith, w.if-n-gt0.false))
   | in_default-via-in_default w ↦ λ h.
       letter_normal c.args.book.now c.requires.can_turn.0 c.args.self.now.store c.args.self.now.roots c.args.self.now.frames c.args.p
       c.requires.can_turn.1
