@@ -6,7 +6,7 @@ use Rattle.rewriting.specs.Terms.{Term, letter, sign, Terms, none1, and1, Over, 
 use Rattle.rewriting.specs.Books.{Book}
 use Rattle.books.specs.Rows.{Reads}
 use Rattle.books.specs.Layouts.{Laid}
-use Rattle.books.specs.Indexing.{FirstFrom, Indexed}
+use Rattle.books.specs.Indexing.{FirstFrom, RulesIndexed}
 use Rattle.books.specs.declared.layout.Layout.{Layout}
 use Rattle.books.specs.declared.index.Index.{Index}
 
@@ -29,5 +29,5 @@ first-prop : (t : ℕ → ℕ) (n a f : ℕ) (o : Maybe ℕ) → IsProp (FirstFr
 first-prop t n a f (Some i) = Prim.hlevel props
 first-prop t n a f None = Prim.hlevel props
 
-pub Indexed-prop : (t : ℕ → ℕ) (n : ℕ) (x : Index) → IsProp (Indexed t n x)
-Indexed-prop t n x = Prim.hlevel first-prop
+pub RulesIndexed-prop : (b : Book) (x : Index) → IsProp (RulesIndexed b x)
+RulesIndexed-prop b x = Prim.hlevel first-prop

@@ -1,5 +1,5 @@
 -- The rules of a book by their top signs.
-use Rattle.std.specs.Prelude.{◌≡◌, ℕ, ◌+◌, ◌*◌, ◌<◌, ◌≤◌, ◌≢◌, List, Some, None, Option as Maybe, slice_index, slice_index_or}
+use Rattle.std.specs.Prelude.{◌≡◌, ℕ, ◌+◌, ◌*◌, ◌<◌, ◌≤◌, ◌≢◌, List, Some, None, Option as Maybe, length, slice_index, slice_index_or}
 use Rattle.rewriting.specs.Terms.{Term, letter, sign}
 use Rattle.rewriting.specs.Books.{Book}
 use Rattle.books.specs.declared.index.Index.{Index}
@@ -29,3 +29,7 @@ pub record IndexedFrom (t : ℕ → ℕ) (n m : ℕ) (firsts nexts : List (Maybe
 -- all of them
 abbrev pub Indexed : (ℕ → ℕ) → ℕ → Index → Type 0
 Indexed t n x = IndexedFrom t n 0 x.first x.next
+
+-- those of a book, by the top signs of their left sides
+abbrev pub RulesIndexed : Book → Index → Type 0
+RulesIndexed b x = Indexed (rule_top b) (length b.rules) x

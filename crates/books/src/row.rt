@@ -3,8 +3,8 @@ ghost use Rattle.std.specs.Prelude.{◌≡◌, ◌+◌, ◌*◌, ◌<◌, length
 ghost use Rattle.books.specs.Rows.{Reads, row};
 ghost use Rattle.books.specs.Reading.{book_of};
 ghost use Rattle.books.specs.Layouts.{Laid};
-ghost use Rattle.books.specs.Indexing.{Indexed, rule_top};
-ghost use Rattle.books.specs.Facts.{Reads-prop, Laid-prop, Indexed-prop};
+ghost use Rattle.books.specs.Indexing.{RulesIndexed};
+ghost use Rattle.books.specs.Facts.{Reads-prop, Laid-prop, RulesIndexed-prop};
 
 use crate::book::read_book;
 use crate::index::{Index, index_rules};
@@ -18,7 +18,7 @@ pub struct Book<'a> {
     pub index: Index,
     pub ghost reads: { Reads words.now (book_of words.now) } by { Reads-prop words.now (book_of words.now) },
     pub ghost laid: { Laid words.now (book_of words.now) layout } by { Laid-prop words.now (book_of words.now) layout },
-    pub ghost indexed: { Indexed (rule_top (book_of words.now)) (length (book_of words.now).rules) index } by { Indexed-prop (rule_top (book_of words.now)) (length (book_of words.now).rules) index },
+    pub ghost indexed: { RulesIndexed (book_of words.now) index } by { RulesIndexed-prop (book_of words.now) index },
 }
 
 // The rows of the sides of a rule or an equation.

@@ -35,5 +35,6 @@ returns-in-len1-up-clause-is c =
     ap (λ (x : ℕ). bit_and ((x + c.hash.result / 4294967296) % 18446744073709551616) c.args.mask)
     (get_or-take c.arity.result key.parts 0 0 (omega arith))
     ∙ bucket_parts c.args.mask (kind_of key.head) (arity_of (kind_of key.head)) c.hash.result (length rest) p q (omega arith)
-    (λ i l. ap (λ (xs : List ℕ). get_or xs i 0) all ∙ get_or_after_one used i 0 ∙ get_or-take c.arity.result key.parts (1 + i) 0 (omega arith) ∙ ap p (omega arith))
+    (λ i l. ap (λ (xs : List ℕ). get_or xs i 0) all ∙ get_or_after_one used i 0
+    ∙ get_or-take c.arity.result key.parts (1 + i) 0 (omega arith) ∙ ap p (omega arith))
     (c.hash.ensures ∙ ap (λ (x : ℕ). hash_of x q (length rest)) kind)
