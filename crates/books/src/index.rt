@@ -30,8 +30,8 @@ impl Index {
 
 // The index of rules whose left sides start where the starts say, after those of some equations.
 pub fn index_rules(words: &[u32], starts: &[usize; 257], equations: usize, rules: usize) -> Index
-    requires equations_bound { (equations ≤ 64) × (rules ≤ 64) }
-    requires by_index { (i : ℕ) → i < rules → slice_index starts.now (2 * (equations + i)) + 2 ≤ length words.now }
+    requires few { (equations ≤ 64) × (rules ≤ 64) }
+    requires inside { (i : ℕ) → i < rules → slice_index starts.now (2 * (equations + i)) + 2 ≤ length words.now }
     ensures { Indexed (λ i. top_word words.now starts.now equations i) rules result }
 {
     let mut first = [None; 32];

@@ -46,14 +46,8 @@ module _ (k : Book) (ps : List ℕ) (e : ps ≡ (told k).parts) where
   of_told : (ws : List ℕ) (t : Term) → Of (told k).parts ws t → Of ps ws t
   of_told ws t o = subst (λ (qs : List ℕ). Of qs ws t) (sym e) o
 
-  -- both are terms: the left one is not, or it is and the right one tells
+  -- both are terms: the left one is, and the right one tells
   module _ (ls rs : List ℕ) (x : Bool) where
-    pub left_not : x ≡ false → Tells x ((t : Term) × Of ps ls t) → Tells x (TwoRows k ls rs)
-    left_not f h = record {
-      holds = λ g. let z : true ≡ false = sym g ∙ f in let y : ◌≡◌ {A = ℕ} 0 1 = cc in absurd (omega arith);
-      fails = λ g w. h.fails g (w.0, of_told ls w.0 w.2.left);
-    }
-
     pub left_is : ((t : Term) × Of ps ls t) → Tells x ((u : Term) × Of ps rs u) → Tells x (TwoRows k ls rs)
     left_is l h = record {
       holds = λ g. let r = h.holds g in
@@ -184,16 +178,3 @@ module _ (b : Book) (w : Work) (ls rs : List ℕ) (two : TwoRows b ls rs) (v : W
           let g = h.result t u o in
           subst (λ (y : Term). Compares b n y u x) g.2
           (subst (λ (y : Term). Compares b n (root_term v 0) y x) g.3 (f n (ample_here n a)))
-
-  -- no room to read them
-  module _ (e : NoRoom) (h : RowsRead b w ls rs v (Err e)) (s : Roots) (cut : CutTo v.roots 0 s) where
-    pub idle_none : Idle w (record { store = v.store; roots = s; frames = v.frames })
-    idle_none = record {
-      room = h.room;
-      cells = ap length cut.cells ∙ h.cells;
-      words = ap (λ (fr : _). length fr.words.now) h.frames;
-      none = cut.top;
-    }
-
-    pub compared_none : (t u : Term) → RowsOf b ls rs t u → (n : ℕ) → Ample n w → size t ≤ n → size u ≤ n → Compares b n t u (Err e)
-    compared_none t u o n a l m = absurd (h.result t u o n a l m)

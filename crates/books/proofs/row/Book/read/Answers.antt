@@ -8,8 +8,8 @@ use Rattle.books.proofs.Bookish.{left_laid}
 use Rattle.books.proofs.Indexing.{top_at, indexed_same}
 use Rattle.books.proofs.row.Book.read.Goals as goal
 
-pub index_rules-index-requires-clause-by_index : goal.index_rules-index-requires-clause-by_index
-index_rules-index-requires-clause-by_index c i l =
+pub index_rules-index-requires-clause-inside : goal.index_rules-index-requires-clause-inside
+index_rules-index-requires-clause-inside c i l =
     let read = c.in_ok-layout.ensures in
     let at = left_laid c.args.words.now (book_of c.args.words.now) c.in_ok-layout.layout read.1 i (omega (arith, read.1.rules)) in
     omega (arith, at.long, at.within, size_some (get_or (book_of c.args.words.now).rules i blank).left)
