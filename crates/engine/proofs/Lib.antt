@@ -2,6 +2,7 @@
 pub mod Pendings
 pub mod Matcher
 pub mod Builts
+pub mod Chunks
 pub mod Builder
 pub mod Trying
 pub mod Contexts

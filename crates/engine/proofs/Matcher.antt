@@ -103,6 +103,12 @@ module _ (ps ws : List ℕ) (b0 : Bindings) (l t : Term) (st : Store) (a : ℕ) 
         sym (get_or-drop a ws 1 0) ∙ ap (λ (v : List ℕ). get_or v 1 0) e,
       )
 
+  -- before the end there is a symbol
+  pub no_turn : a < length ws → SymbolAt ws a None → Matching ps ws b0 l t st a q b → ⊥
+  no_turn more y (none1, m) = omega (arith, m.long, more)
+  no_turn more y (and1 (letter z) us, m) = let h = here_symbol (letter z) us m in omega (arith, y h.0, h.1)
+  no_turn more y (and1 (sign g vs) us, m) = let h = here_symbol (sign g vs) us m in omega (arith, y h.0, h.1)
+
   words_next : (u : Term) (us : Terms) → MatchingWith ps ws b0 l t st a q b (and1 u us) →
       drop (a + 2) ws ≡ rows (opened u us)
   words_next u us m = sym (drop-drop 2 a ws) ∙ ap (drop 2) (words_first u us m)
@@ -286,11 +292,6 @@ module _ (ps ws : List ℕ) (b0 : Bindings) (l t : Term) (st : Store) (a : ℕ) 
     sign_turn f y r2 res h (and1 (sign g vs) us, m) =
         let e : g ≡ f = sym (here_symbol (sign g vs) us m).2 ∙ y.2 in
         sign_with f r2 res h vs us (subst (λ (k : ℕ). MatchingWith ps ws b0 l t st a q b (and1 (sign k vs) us)) e m)
-
-    pub no_turn : SymbolAt ws a None → Matching ps ws b0 l t st a q b → ⊥
-    no_turn y (none1, m) = no_patterns m
-    no_turn y (and1 (letter z) us, m) = let h = here_symbol (letter z) us m in omega (arith, y h.0, h.1)
-    no_turn y (and1 (sign g vs) us, m) = let h = here_symbol (sign g vs) us m in omega (arith, y h.0, h.1)
 
 -- the next place, and those below it
 pub next_place : (q r : List Place) (o : Maybe Place) (p : Place) → q ≡ r ++ option_to_list o → o ≡ Some p → q ≡ r ++ p ∷ []

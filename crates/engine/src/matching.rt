@@ -3,6 +3,8 @@
 // Stays a store beside what is bound: matching reads the one and writes the other, and building does the reverse.
 ghost use Rattle.std.specs.Prelude.{◌≡◌, ℕ, ◌*◌, ◌<◌, ◌≤◌, List, length};
 ghost use Rattle.rewriting.specs.Terms.{Term};
+ghost use Rattle.std.specs.Prelude.{Some};
+ghost use Rattle.books.specs.Reading.{SymbolAt};
 ghost use Rattle.arrayvec.specs.ArrayVec.{array_vec_len};
 ghost use Rattle.store.specs.Stores.{term_in};
 ghost use Rattle.engine.specs.Matching.{given, AllInside, MatchedOn, Pattern, PlacesInside, SomePattern, Turns};
@@ -12,24 +14,23 @@ use crate::types::{Bindings, Pending};
 use books::words::{Symbol, symbol_at};
 use store::{Place, Store};
 
-// Matches the next pending place with the symbol at a place of the pattern.
+// Matches the next pending place with a symbol of the pattern.
 // Stays a bool: that the pattern doesn't fit here is all there is to say.
 fn match_symbol(
-    pattern: &[u32],
-    at: usize,
+    symbol: Symbol,
     store: &Store,
     pending: &mut Pending,
     bindings: &mut Bindings,
 ) -> bool
     requires some { (0 < array_vec_len pending.old) × (array_vec_len pending.old ≤ 32) }
     requires places_inside { PlacesInside store.now pending.old.items }
-    ensures { Turns pattern.now store.now at pending.old.items bindings.old pending.new.items bindings.new result }
+    ensures { (ws : List ℕ) (a : ℕ) → SymbolAt ws a (Some symbol) →
+        Turns ws store.now a pending.old.items bindings.old pending.new.items bindings.new result }
 {
     let p = pending.pop().unwrap();
-    match symbol_at(pattern, at) {
-        Some(Symbol::Letter(x)) => x < 32 && bindings.bind(x, p),
-        Some(Symbol::Sign(f)) => open(pending, store, p, f),
-        None => false,
+    match symbol {
+        Symbol::Letter(x) => x < 32 && bindings.bind(x, p),
+        Symbol::Sign(f) => open(pending, store, p, f),
     }
 }
 
@@ -44,9 +45,9 @@ pub fn bind_pattern(pattern: &[u32], store: &Store, p: Place, bindings: &mut Bin
 {
     let mut pending = Pending::new();
     pending.push(p);
-    // Stays a loop over numbers: `symbol_at` wants the symbol's place.
-    for k in 0..pattern.len() / 2 {
-        if !match_symbol(pattern, 2 * k, store, &mut pending, bindings) {
+    for pair in pattern.chunks_exact(2) {
+        let symbol = symbol_at(pair, 0).unwrap();
+        if !match_symbol(symbol, store, &mut pending, bindings) {
             return false;
         }
     }

@@ -1,54 +1,51 @@
 -- From the whole pattern to no symbol.
-use Rattle.std.proofs.Common.{◌≡◌, ◌+◌, ◌*◌, ℕ, List, length, get_or, ap, sym, subst, arith}
-use Rattle.books.proofs.Glueing.{row_length}
-use Rattle.store.specs.declared.types.Place.{Place}
-use Rattle.store.specs.Stores.{term_in}
-use Rattle.engine.specs.Matching.{Matching}
-use Rattle.engine.proofs.Matcher.{only_one, of_place, match_start, match_room, match_end}
+use Rattle.std.proofs.Common.{sym, ap, ◌∙◌, subst, Some, true, false, arith}
+use Rattle.books.specs.Reading.{SymbolAt}
+use Rattle.engine.proofs.Matcher.{only_one, match_start}
+use Rattle.engine.proofs.Chunks.{is_symbol, room, turned, next_to, matched_end}
 use Rattle.engine.proofs.matching.bind_pattern.Goals as goal
 
-abbrev first : List Place → Place
-first ps = get_or ps 0 (record { 0 = 0 })
+pub loop-pair-init : goal.loop-pair-init
+loop-pair-init c =
+    let same = c.into_iter-pair-iterator.ensures.into_iter_gives in (
+      rw same c.chunks_exact-pair-items.ensures.size,
+      record {
+        place = 0;
+        there = rw same (sym c.chunks_exact-pair-items.ensures.rest);
+        matches = λ ps u h. match_start ps c.args.pattern.now u c.args.store.now c.args.p c.push.new.self.items c.args.bindings.now h
+            c.requires.pattern.0 (only_one c.new-pending.result.items c.push.new.self.items c.args.p c.new-pending.ensures c.push.ensures.items)
+            c.requires.bindings.0 c.requires.bindings.1;
+      },
+    )
 
-pub loop-k-init : goal.loop-k-init
-loop-k-init c =
-    of_place c.args.pattern.now c.args.bindings.now c.args.store.now c.args.p _ 0 c.push.new.self.items c.args.bindings.now
-    (sym (ap first (only_one c.new-pending.result.items c.push.new.self.items c.args.p c.new-pending.ensures c.push.ensures.items)))
-    (λ ps u h. match_start ps c.args.pattern.now u c.args.store.now c.args.p c.push.new.self.items c.args.bindings.now h
-    c.requires.pattern.0 (only_one c.new-pending.result.items c.push.new.self.items c.args.p c.new-pending.ensures c.push.ensures.items)
-    c.requires.bindings.0 c.requires.bindings.1)
+pub unwrap-symbol-requires : goal.unwrap-symbol-requires
+unwrap-symbol-requires c =
+    let step = c.in-Some.ensures.steps.1 in
+    is_symbol c.loop-pair.invariant.1 c.requires.pattern.1 _ _ step.0 (step.1 ∙ c.loop-pair.invariant.0) _ c.symbol_at.ensures
 
 pub match_symbol-requires : goal.match_symbol-requires
 match_symbol-requires c =
-    let (ps, u, h) = c.requires.pattern.1 in
-    let m = of_place c.args.pattern.now c.args.bindings.now c.args.store.now _ c.args.p
-    (2 * c.loop-k.k) c.loop-k.pending.items c.loop-k.bindings (ap first (only_one c.new-pending.result.items c.push.new.self.items
-    c.args.p c.new-pending.ensures c.push.ensures.items)) c.loop-k.invariant in
-    let room = match_room ps c.args.pattern.now c.args.bindings.now u (term_in c.args.store.now c.args.p.0) c.args.store.now
-    (2 * c.loop-k.k) c.loop-k.pending.items c.loop-k.bindings (omega (arith, ap length h.written, row_length u, h.short))
-    (omega (arith, c.loop-k-test.true)) (m ps u h) in
-    record { some = (room.0, room.1); places_inside = room.2 }
+    let step = c.in-Some.ensures.steps.1 in
+    let enough = room c.loop-pair.invariant.1 c.requires.pattern.1 _ _ step.0 (step.1 ∙ c.loop-pair.invariant.0) in
+    record { some = (enough.0, enough.1); places_inside = enough.2 }
 
 pub returns-then-not-match_symbol : goal.returns-then-not-match_symbol
 returns-then-not-match_symbol c ps u h =
-    let m = of_place c.args.pattern.now c.args.bindings.now c.args.store.now _ c.args.p
-    (2 * c.loop-k.k) c.loop-k.pending.items c.loop-k.bindings (ap first (only_one c.new-pending.result.items c.push.new.self.items
-    c.args.p c.new-pending.ensures c.push.ensures.items)) c.loop-k.invariant in
-    c.if-not-match_symbol.ensures ps c.args.bindings.now u (term_in c.args.store.now c.args.p.0) (m ps u h)
+    let step = c.in-Some.ensures.steps.1 in
+    turned c.loop-pair.invariant.1 c.requires.pattern.1 _ _ step.0 (step.1 ∙ c.loop-pair.invariant.0)
+    c.match_symbol.new.pending.items c.match_symbol.new.bindings c.unwrap-symbol.result false
+    (subst (SymbolAt c.in-Some.pair.now 0) c.unwrap-symbol.ensures c.symbol_at.ensures) c.if-not-match_symbol.ensures ps u h
 
-pub loop-k-preserved : goal.loop-k-preserved
-loop-k-preserved c ps u h =
-    let t = term_in c.args.store.now (get_or c.push.new.self.items 0 (record { 0 = 0 })).0 in
-    let next : 2 * c.loop-k.k + 2 ≡ 2 * (c.loop-k.k + 1) = omega arith in
-    subst (λ (a : ℕ). Matching ps c.args.pattern.now c.args.bindings.now u t c.args.store.now a c.match_symbol.new.pending.items
-    c.match_symbol.new.bindings) next
-    (c.if-not-match_symbol.ensures ps c.args.bindings.now u t (c.loop-k.invariant ps u h))
+pub loop-pair-preserved : goal.loop-pair-preserved
+loop-pair-preserved c =
+    let step = c.in-Some.ensures.steps.1 in
+    let two = step.1 ∙ c.loop-pair.invariant.0 in (
+      c.in-Some.ensures.steps.0 ∙ c.loop-pair.invariant.0,
+      next_to c.loop-pair.invariant.1 c.requires.pattern.1 _ _ step.0 two _ _
+          (turned c.loop-pair.invariant.1 c.requires.pattern.1 _ _ step.0 two
+          c.match_symbol.new.pending.items c.match_symbol.new.bindings c.unwrap-symbol.result true
+          (subst (SymbolAt c.in-Some.pair.now 0) c.unwrap-symbol.ensures c.symbol_at.ensures) c.if-not-match_symbol.ensures),
+    )
 
 pub returns : goal.returns
-returns c ps u h =
-    let m = of_place c.args.pattern.now c.args.bindings.now c.args.store.now _ c.args.p
-    (2 * c.loop-k.k) c.loop-k.pending.items c.loop-k.bindings (ap first (only_one c.new-pending.result.items c.push.new.self.items
-    c.args.p c.new-pending.ensures c.push.ensures.items)) c.loop-k.invariant in
-    match_end ps c.args.pattern.now c.args.bindings.now u (term_in c.args.store.now c.args.p.0) c.args.store.now
-    (2 * c.loop-k.k) c.loop-k.pending.items c.loop-k.bindings (m ps u h)
-    (omega (arith, c.loop-k-test.false, ap length h.written, row_length u))
+returns c = matched_end c.loop-pair.invariant.1 (omega (arith, c.in-None.ensures.steps.1.0, c.loop-pair.invariant.0))

@@ -1,8 +1,8 @@
--- Matching has come to symbol k, whatever the pattern is, for the place that was pending first.
-use Rattle.std.proofs.Common.{◌*◌, get_or}
-use Rattle.engine.specs.Matching.{MatchesAll}
+-- Matching has come to the words that are left.
+use Rattle.std.proofs.Common.{◌≡◌}
+use Rattle.engine.proofs.Chunks.{MatchedTo}
 use Rattle.engine.proofs.matching.bind_pattern.Given as goal
 
-abbrev pub invariant-loop-k : goal.invariant-loop-k
-invariant-loop-k l = MatchesAll l.pattern l.initial.bindings l.store (get_or l.initial.pending.items 0 (record { 0 = 0 })) (2 * l.k)
-    l.pending.items l.bindings
+abbrev pub invariant-loop-pair : goal.invariant-loop-pair
+invariant-loop-pair l = (l.pair-iterator.size ≡ 2)
+    × MatchedTo l.pattern l.initial.bindings l.store l.fn.p l.pair-iterator.rest.now l.pending.items l.bindings
