@@ -1,10 +1,12 @@
--- A pattern read by chunks of two words, each of them a symbol: where matching has come to when some words are left.
+-- A row read by chunks of two words, each of them a symbol: where matching and building have come to when some words are left.
 use Rattle.std.proofs.Common.{◌≡◌, ℕ, ◌+◌, ◌<◌, ◌≤◌, List, ◌++◌, length, get_or, drop, Some, None, Option as Maybe, sym, ap, ◌∙◌, subst, arith, rules}
+use Rattle.std.proofs.Common.{[], ◌-◌, ◌*◌, ◌%◌, refl, append_assoc, append-nil}
+use Rattle.std.proofs.lemmas.List.{nil_from_length}
 use Rattle.std.proofs.Common.{length-append, length-drop, get_or-drop, drop-drop}
 use lib.ListN.{get_or-append}
 use lib.Seq.{drop-append_seam}
 use Rattle.std.specs.Option.{IsSome}
-use Rattle.rewriting.specs.Terms.{Term}
+use Rattle.rewriting.specs.Terms.{Term, none1, and1, size}
 use Rattle.books.specs.Reading.{SymbolAt}
 use Rattle.books.specs.declared.words.Symbol.{Symbol}
 use Rattle.books.proofs.Glueing.{row_length}
@@ -12,7 +14,13 @@ use Rattle.store.specs.declared.types.Store.{Store}
 use Rattle.store.specs.declared.types.Place.{Place}
 use Rattle.store.specs.Stores.{term_in}
 use Rattle.engine.specs.declared.types.Bindings.{Bindings}
-use Rattle.engine.specs.Matching.{Pattern, SomePattern, PlacesInside, MatchesAll, MatchedOn, given, Turns, Turned}
+use Rattle.engine.specs.Matching.{Pattern, SomePattern, PlacesInside, MatchesAll, MatchedOn, Turns, Turned}
+use Rattle.engine.specs.Matching.{AllInside}
+use Rattle.engine.specs.Building.{Fillable, SymbolBuilt}
+use Rattle.books.specs.Layouts.{FewParts}
+use Rattle.store.proofs.Forests.{after}
+use Rattle.store.proofs.Reading.{symbol_there}
+use Rattle.engine.proofs.Builder.{SoBuilt, Turn, none_built, symbols_built, turn, built_more}
 use Rattle.engine.proofs.Matcher.{no_turn, match_room, match_end}
 
 -- a chunk says the symbol at its place, and the words behind it are left
@@ -78,3 +86,75 @@ matched_end {ws} {b0} {st} {p} {rest} {q} {b} m short ps l h =
     let k = m.matches ps l h in
     match_end ps ws b0 l (term_in st p.0) st m.place q b k
     (omega (arith, ap length m.there, length-drop m.place ws, k.1.long))
+
+-- building has come to the place in front of which some words are left
+pub record BuiltTo (ps ws : List ℕ) (b : Bindings) (a : Store) (rest : List ℕ) (st : Store) (q : List Place) : Type 0 where
+  pub symbols : ℕ
+  pub behind : List ℕ
+  pub long : length rest ≡ 2 * symbols
+  pub there : ws ≡ rest ++ behind
+  pub built : (t : Term) → Fillable ps ws b t → SoBuilt t a b symbols st q
+
+-- nothing is built yet
+module _ {ps ws : List ℕ} (few : FewParts ps) {b : Bindings} {a : Store} (inside : AllInside a b) where
+  pub built_from : ((t : Term) × Fillable ps ws b t) → (front rest : List ℕ) → ws ≡ front ++ rest → length front ≡ length ws % 2 →
+      (q : List Place) → q ≡ [] → BuiltTo ps ws b a rest a q
+  built_from (t, f) front rest d odd q e =
+      let none : front ≡ [] = nil_from_length front (odd ∙ even t f) in
+      let all : ws ≡ rest = d ∙ ap (λ (v : List ℕ). v ++ rest) none in
+      record {
+        symbols = size t;
+        behind = [];
+        long = sym (ap length all) ∙ symbols_built ps ws few t a b f inside;
+        there = all ∙ sym (append-nil rest);
+        built = λ u g. none_built u a b (size t) q
+            (omega (arith, symbols_built ps ws few t a b f inside, symbols_built ps ws few u a b g inside)) e;
+      }
+    where
+      even : (u : Term) → Fillable ps ws b u → length ws % 2 ≡ 0
+      even u g = omega (arith, symbols_built ps ws few u a b g inside)
+
+  -- one chunk more
+  module _ {rest : List ℕ} {st : Store} {q : List Place} (m : BuiltTo ps ws b a rest st q) (more xs : List ℕ) (d : rest ≡ more ++ xs)
+      (two : length xs ≡ 2) where
+    front : ws ≡ more ++ (xs ++ m.behind)
+    front = m.there ∙ ap (λ (v : List ℕ). v ++ m.behind) d ∙ append_assoc more xs m.behind
+
+    before : length more ≡ 2 * (m.symbols - 1)
+    before = omega (arith, ap length d, length-append more xs, m.long)
+
+    pub some_left : 0 < m.symbols
+    some_left = omega (arith, ap length d, length-append more xs, m.long)
+
+    within : (t : Term) → Fillable ps ws b t → m.symbols ≤ size t
+    within t f = omega (arith, symbols_built ps ws few t a b f inside, m.long, ap length m.there, length-append rest m.behind)
+
+    symbol_before : (y : Maybe Symbol) → SymbolAt xs 0 y → SymbolAt ws (2 * (m.symbols - 1)) y
+    symbol_before y s = subst (λ (i : ℕ). SymbolAt ws i y) before (chunk_symbol ws xs m.behind (length more)
+        (ap (drop (length more)) front ∙ drop-append_seam more (xs ++ m.behind)) two y s)
+
+    pub row_symbol : ((t : Term) × Fillable ps ws b t) → (y : Maybe Symbol) → SymbolAt xs 0 y → IsSome y
+    row_symbol (t, f) y s = symbol_there ps ws t m.symbols f.row some_left
+        (omega (arith, symbols_built ps ws few t a b f inside, within t f)) y (symbol_before y s)
+
+    pub turn_there : (y : Symbol) → SymbolAt xs 0 (Some y) → (t : Term) (f : Fillable ps ws b t) →
+        Turn a ps y b st q (after (m.symbols - 1) (and1 t none1))
+    turn_there y s t f = turn ps ws few t a b f inside m.symbols st q some_left (within t f) (m.built t f) (Some y) y refl
+        (symbol_before (Some y) s)
+
+    pub built_next : (y : Symbol) → SymbolAt xs 0 (Some y) → (su : Store) (r : List Place) → SymbolBuilt ps y b st q su r →
+        BuiltTo ps ws b a more su r
+    built_next y s su r made = record {
+      symbols = m.symbols - 1;
+      behind = xs ++ m.behind;
+      long = before;
+      there = front;
+      built = λ t f. built_more ps ws few t a b f inside m.symbols st q (m.built t f) some_left (turn_there y s t f) su r made;
+    }
+
+-- no chunk is left
+pub built_end : {ps ws rest : List ℕ} {b : Bindings} {a st : Store} {q : List Place} → BuiltTo ps ws b a rest st q → length rest < 2 →
+    (t : Term) → Fillable ps ws b t → SoBuilt t a b 0 st q
+built_end {ps} {ws} {rest} {b} {a} {st} {q} m short t f =
+    let z : m.symbols ≡ 0 = omega (arith, m.long) in
+    subst (λ (k : ℕ). SoBuilt t a b k st q) z (m.built t f)

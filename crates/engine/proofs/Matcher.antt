@@ -24,7 +24,7 @@ use Rattle.engine.specs.declared.types.Bindings.{Bindings}
 use Rattle.engine.specs.Matching.{bound, Agrees, term_or, put_in, AllInside, Bound, BoundNow, nothing}
 use Rattle.engine.specs.Matching.{Instance, Extended, MatchedOn, Pattern}
 use Rattle.engine.specs.Matching.{stacked, PlacesInside, Pushed, PartsPending}
-use Rattle.engine.specs.Matching.{MatchingWith, Matching, MatchesAll, Turned}
+use Rattle.engine.specs.Matching.{MatchingWith, Matching, Turned}
 use Rattle.engine.proofs.Pendings.{one_more, stacked_more, inside_below, inside_last}
 
 -- letters in terms behind terms
@@ -296,10 +296,6 @@ module _ (ps ws : List ℕ) (b0 : Bindings) (l t : Term) (st : Store) (a : ℕ) 
 -- the next place, and those below it
 pub next_place : (q r : List Place) (o : Maybe Place) (p : Place) → q ≡ r ++ option_to_list o → o ≡ Some p → q ≡ r ++ p ∷ []
 next_place q r o p h e = h ∙ ap (λ (x : Maybe Place). r ++ option_to_list x) e
-
-pub of_place : (ws : List ℕ) (b0 : Bindings) (st : Store) (x y : Place) (a : ℕ) (q : List Place) (b : Bindings) → x ≡ y →
-    MatchesAll ws b0 st x a q b → MatchesAll ws b0 st y a q b
-of_place ws b0 st x y a q b e = subst (λ (p : Place). MatchesAll ws b0 st p a q b) e
 
 -- nothing is bound at first
 none_bound : {A : Type 0} (d : A) (n x : ℕ) → get_or (replicate n d) x d ≡ d

@@ -1,6 +1,6 @@
 // What is put for letters.
 // Stays in the contracts that a letter is below 32: it is a fact of an index.
-ghost use Rattle.std.specs.Prelude.{◌≡◌, ◌<◌, length, replicate, None};
+ghost use Rattle.std.specs.Prelude.{◌≡◌, ◌<◌, replicate, None};
 ghost use Rattle.engine.specs.Matching.{bound, BoundNow};
 
 use crate::types::Bindings;

@@ -42,9 +42,8 @@ pub fn row_instance(parts: &[u32], row: &[u32], bindings: &Bindings, store: &mut
         RowInstanceBuilt store.old bindings.now t store.new result }
 {
     let mut built = Built::new();
-    // Stays a loop over numbers: `symbol_at` wants the symbol's place.
-    for k in (0..row.len() / 2).rev() {
-        let symbol = symbol_at(row, 2 * k).unwrap();
+    for pair in row.rchunks_exact(2) {
+        let symbol = symbol_at(pair, 0).unwrap();
         build_symbol(parts, symbol, bindings, store, &mut built);
     }
     built[0]

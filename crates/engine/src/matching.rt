@@ -1,9 +1,8 @@
 // Matching a pattern, which is a side of an equation or a rule, with a term.
 // Stays in the contracts that places are inside the store: it relates them to a store that grows, and they don't hold it.
 // Stays a store beside what is bound: matching reads the one and writes the other, and building does the reverse.
-ghost use Rattle.std.specs.Prelude.{◌≡◌, ℕ, ◌*◌, ◌<◌, ◌≤◌, List, length};
+ghost use Rattle.std.specs.Prelude.{◌≡◌, ℕ, ◌<◌, ◌≤◌, List, length, Some};
 ghost use Rattle.rewriting.specs.Terms.{Term};
-ghost use Rattle.std.specs.Prelude.{Some};
 ghost use Rattle.books.specs.Reading.{SymbolAt};
 ghost use Rattle.arrayvec.specs.ArrayVec.{array_vec_len};
 ghost use Rattle.store.specs.Stores.{term_in};

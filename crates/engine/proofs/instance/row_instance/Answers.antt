@@ -1,62 +1,71 @@
 -- From no symbol to the whole term.
-use Rattle.std.proofs.Common.{◌≡◌, ℕ, List, get_or, ap, length, sym, subst, arith}
+use Rattle.std.proofs.Common.{List, get_or, ap, ◌∙◌, length, sym, subst, arith}
+use Rattle.books.specs.Reading.{SymbolAt}
 use Rattle.store.specs.declared.types.Place.{Place}
-use Rattle.store.proofs.Reading.{symbol_there}
 use Rattle.engine.specs.Building.{RowInstanceBuilt}
-use Rattle.engine.proofs.Builder.{SoBuilt, none_built, symbols_built, turn, built_more, one_built, built_all}
+use Rattle.engine.proofs.Builder.{one_built, built_all}
+use Rattle.engine.proofs.Chunks.{built_from, row_symbol, some_left, turn_there, built_next, built_end}
 use Rattle.engine.proofs.instance.row_instance.Goals as goal
 
-pub loop-k-init : goal.loop-k-init
-loop-k-init c t f =
-    none_built t c.args.store.now c.args.bindings.now _ c.new-built.result.items
-    (omega (
-      arith,
-      symbols_built c.args.parts.now c.args.row.now c.requires.few_parts.0 t c.args.store.now c.args.bindings.now f
-          c.requires.space.1,
-    ))
-    c.new-built.ensures
+pub loop-pair-init : goal.loop-pair-init
+loop-pair-init c =
+    let same = c.into_iter-pair-iterator.ensures.into_iter_gives in
+    let cut = c.rchunks_exact-pair-items.ensures in (
+      rw same cut.size,
+      rw same (built_from c.requires.few_parts.0 c.requires.space.1 c.requires.few_parts.1 _ _ cut.parts cut.remainder_len _ c.new-built.ensures),
+    )
 
 pub unwrap-symbol-requires : goal.unwrap-symbol-requires
 unwrap-symbol-requires c =
-    let (t, f) = c.requires.few_parts.1 in
-    symbol_there c.args.parts.now c.args.row.now t c.loop-k.k f.row (omega arith) (omega arith) _ c.symbol_at.ensures
+    let step = c.in-Some.ensures.steps.2 in
+    row_symbol c.requires.few_parts.0 c.requires.space.1 c.loop-pair.invariant.1 _ _ step.0 (step.1 ∙ c.loop-pair.invariant.0)
+    c.requires.few_parts.1 _ c.symbol_at.ensures
 
-pub build_symbol-requires : goal.build_symbol-requires
-build_symbol-requires c =
-    let ps = c.args.parts.now in let ws = c.args.row.now in let a = c.args.store.now in let b = c.args.bindings.now in
+pub build_symbol-requires-clause-space : goal.build_symbol-requires-clause-space
+build_symbol-requires-clause-space c =
     let (t, f) = c.requires.few_parts.1 in
-    let s = c.loop-k.invariant t f in
-    let y = turn ps ws c.requires.few_parts.0 t a b f c.requires.space.1 c.loop-k.k c.loop-k.store c.loop-k.built.items (omega arith)
-    (omega (arith, symbols_built ps ws c.requires.few_parts.0 t a b f c.requires.space.1)) s _ _ c.unwrap-symbol.ensures
-    c.symbol_at.ensures in
-    record { space = omega (arith, s.few, s.grown.limit, f.small, c.requires.space.0); buildable = y.can }
+    let step = c.in-Some.ensures.steps.2 in
+    let s = c.loop-pair.invariant.1.built t f in
+    omega (
+      arith,
+      s.few,
+      s.grown.limit,
+      f.small,
+      c.requires.space.0,
+      some_left c.requires.few_parts.0 c.requires.space.1 c.loop-pair.invariant.1 _ _ step.0 (step.1 ∙ c.loop-pair.invariant.0),
+    )
 
-pub loop-k-preserved : goal.loop-k-preserved
-loop-k-preserved c t f =
-    let ps = c.args.parts.now in let ws = c.args.row.now in let a = c.args.store.now in let b = c.args.bindings.now in
-    let s = c.loop-k.invariant t f in
-    let y = turn ps ws c.requires.few_parts.0 t a b f c.requires.space.1 c.loop-k.k c.loop-k.store c.loop-k.built.items (omega arith)
-    (omega (arith, symbols_built ps ws c.requires.few_parts.0 t a b f c.requires.space.1)) s _ _ c.unwrap-symbol.ensures
-    c.symbol_at.ensures in
-    built_more ps ws c.requires.few_parts.0 t a b f c.requires.space.1 c.loop-k.k c.loop-k.store c.loop-k.built.items s (omega arith)
-    y c.build_symbol.new.store c.build_symbol.new.built.items c.build_symbol.ensures
+pub build_symbol-requires-clause-buildable : goal.build_symbol-requires-clause-buildable
+build_symbol-requires-clause-buildable c =
+    let (t, f) = c.requires.few_parts.1 in
+    let step = c.in-Some.ensures.steps.2 in
+    (turn_there c.requires.few_parts.0 c.requires.space.1 c.loop-pair.invariant.1 _ _ step.0 (step.1 ∙ c.loop-pair.invariant.0)
+    c.unwrap-symbol.result (subst (SymbolAt c.in-Some.pair.now 0) c.unwrap-symbol.ensures c.symbol_at.ensures) t f).can
+
+pub loop-pair-preserved : goal.loop-pair-preserved
+loop-pair-preserved c =
+    let step = c.in-Some.ensures.steps.2 in
+    let two = step.1 ∙ c.loop-pair.invariant.0 in (
+      c.in-Some.ensures.steps.0 ∙ c.loop-pair.invariant.0,
+      built_next c.requires.few_parts.0 c.requires.space.1 c.loop-pair.invariant.1 _ _ step.0 two c.unwrap-symbol.result
+          (subst (SymbolAt c.in-Some.pair.now 0) c.unwrap-symbol.ensures c.symbol_at.ensures)
+          c.build_symbol.new.store c.build_symbol.new.built.items c.build_symbol.ensures,
+    )
 
 pub bounds-deref-0 : goal.bounds-deref-0
 bounds-deref-0 c =
-    let ps = c.args.parts.now in let ws = c.args.row.now in let a = c.args.store.now in let b = c.args.bindings.now in
     let (t, f) = c.requires.few_parts.1 in
-    let z : c.loop-k.k ≡ 0 = omega arith in
     omega (
       arith,
       ap length c.deref.ensures.0,
-      one_built ps ws c.requires.few_parts.0 t a b f c.requires.space.1 c.loop-k.store c.loop-k.built.items
-          (subst (λ (n : ℕ). SoBuilt t a b n c.loop-k.store c.loop-k.built.items) z (c.loop-k.invariant t f)),
+      one_built c.args.parts.now c.args.row.now c.requires.few_parts.0 t c.args.store.now c.args.bindings.now f c.requires.space.1
+          c.loop-pair.store c.loop-pair.built.items
+          (built_end c.loop-pair.invariant.1 (omega (arith, c.in-None.ensures.steps.2.0, c.loop-pair.invariant.0)) t f),
     )
 
 pub returns : goal.returns
 returns c t f =
-    let ps = c.args.parts.now in let ws = c.args.row.now in let a = c.args.store.now in let b = c.args.bindings.now in
-    let z : c.loop-k.k ≡ 0 = omega arith in
-    subst (λ (xs : List Place). RowInstanceBuilt a b t c.loop-k.store (get_or xs 0 (record { 0 = 0 }))) (sym c.deref.ensures.0)
-    (built_all ps ws c.requires.few_parts.0 t a b f c.requires.space.1 c.loop-k.store c.loop-k.built.items
-    (subst (λ (n : ℕ). SoBuilt t a b n c.loop-k.store c.loop-k.built.items) z (c.loop-k.invariant t f)))
+    let a = c.args.store.now in let b = c.args.bindings.now in
+    subst (λ (xs : List Place). RowInstanceBuilt a b t c.loop-pair.store (get_or xs 0 (record { 0 = 0 }))) (sym c.deref.ensures.0)
+    (built_all c.args.parts.now c.args.row.now c.requires.few_parts.0 t a b f c.requires.space.1 c.loop-pair.store c.loop-pair.built.items
+    (built_end c.loop-pair.invariant.1 (omega (arith, c.in-None.ensures.steps.2.0, c.loop-pair.invariant.0)) t f))

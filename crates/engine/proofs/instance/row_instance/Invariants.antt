@@ -1,9 +1,8 @@
--- From symbol k on the instance is built.
-use Rattle.rewriting.specs.Terms.{Term}
-use Rattle.engine.specs.Building.{Fillable}
-use Rattle.engine.proofs.Builder.{SoBuilt}
+-- What is behind the words that are left is built.
+use Rattle.std.proofs.Common.{◌≡◌}
+use Rattle.engine.proofs.Chunks.{BuiltTo}
 use Rattle.engine.proofs.instance.row_instance.Given as goal
 
-abbrev pub invariant-loop-k : goal.invariant-loop-k
-invariant-loop-k l = (t : Term) → Fillable l.parts l.row l.bindings t →
-    SoBuilt t l.initial.store l.bindings l.k l.store l.built.items
+abbrev pub invariant-loop-pair : goal.invariant-loop-pair
+invariant-loop-pair l = (l.pair-iterator.size ≡ 2)
+    × BuiltTo l.parts l.row l.bindings l.initial.store l.pair-iterator.rest.now l.store l.built.items

@@ -1,5 +1,5 @@
 -- From the whole pattern to no symbol.
-use Rattle.std.proofs.Common.{sym, ap, ◌∙◌, subst, Some, true, false, arith}
+use Rattle.std.proofs.Common.{sym, ◌∙◌, subst, true, false, arith}
 use Rattle.books.specs.Reading.{SymbolAt}
 use Rattle.engine.proofs.Matcher.{only_one, match_start}
 use Rattle.engine.proofs.Chunks.{is_symbol, room, turned, next_to, matched_end}
