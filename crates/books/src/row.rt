@@ -57,10 +57,12 @@ impl<'a> Book<'a> {
         ensures { CutAt self.now (slice_index self.now.layout.starts (2 * k)) (slice_index self.now.layout.starts (2 * k + 1))
             (slice_index self.now.layout.starts (2 * k + 2)) result }
     {
-        let middle = self.layout.start(2 * k + 1);
+        let left = self.layout.start(2 * k);
+        let right = self.layout.start(2 * k + 1);
+        let end = self.layout.start(2 * k + 2);
         Sides {
-            left: &self.words[self.layout.start(2 * k)..middle],
-            right: &self.words[middle..self.layout.start(2 * k + 2)],
+            left: &self.words[left..right],
+            right: &self.words[right..end],
         }
     }
 
