@@ -1,10 +1,10 @@
 -- From no symbol to the whole term.
-use Rattle.std.proofs.Common.{List, get_or, ap, ◌∙◌, length, sym, subst, arith}
+use Rattle.std.proofs.Common.{List, get_or, ◌∙◌, sym, subst, arith}
 use Rattle.books.specs.Reading.{SymbolAt}
 use Rattle.store.specs.declared.types.Place.{Place}
 use Rattle.engine.specs.Building.{RowInstanceBuilt}
-use Rattle.engine.proofs.Builder.{one_built, built_all}
-use Rattle.engine.proofs.Chunks.{built_from, row_symbol, some_left, turn_there, built_next, built_end}
+use Rattle.engine.proofs.Builder.{built_all}
+use Rattle.engine.proofs.Chunks.{built_from, row_symbol, turn_there, built_next, built_end}
 use Rattle.engine.proofs.instance.row_instance.Goals as goal
 
 pub loop-pair-init : goal.loop-pair-init
@@ -21,20 +21,6 @@ unwrap-symbol-requires c =
     row_symbol c.requires.few_parts.0 c.requires.space.1 c.loop-pair.invariant.1 _ _ step.0 (step.1 ∙ c.loop-pair.invariant.0)
     c.requires.few_parts.1 _ c.symbol_at.ensures
 
-pub build_symbol-requires-clause-space : goal.build_symbol-requires-clause-space
-build_symbol-requires-clause-space c =
-    let (t, f) = c.requires.few_parts.1 in
-    let step = c.in-Some.ensures.steps.2 in
-    let s = c.loop-pair.invariant.1.built t f in
-    omega (
-      arith,
-      s.few,
-      s.grown.limit,
-      f.small,
-      c.requires.space.0,
-      some_left c.requires.few_parts.0 c.requires.space.1 c.loop-pair.invariant.1 _ _ step.0 (step.1 ∙ c.loop-pair.invariant.0),
-    )
-
 pub build_symbol-requires-clause-buildable : goal.build_symbol-requires-clause-buildable
 build_symbol-requires-clause-buildable c =
     let (t, f) = c.requires.few_parts.1 in
@@ -50,17 +36,6 @@ loop-pair-preserved c =
       built_next c.requires.few_parts.0 c.requires.space.1 c.loop-pair.invariant.1 _ _ step.0 two c.unwrap-symbol.result
           (subst (SymbolAt c.in-Some.pair.now 0) c.unwrap-symbol.ensures c.symbol_at.ensures)
           c.build_symbol.new.store c.build_symbol.new.built.items c.build_symbol.ensures,
-    )
-
-pub bounds-deref-0 : goal.bounds-deref-0
-bounds-deref-0 c =
-    let (t, f) = c.requires.few_parts.1 in
-    omega (
-      arith,
-      ap length c.deref.ensures.0,
-      one_built c.args.parts.now c.args.row.now c.requires.few_parts.0 t c.args.store.now c.args.bindings.now f c.requires.space.1
-          c.loop-pair.store c.loop-pair.built.items
-          (built_end c.loop-pair.invariant.1 (omega (arith, c.in-None.ensures.steps.2.0, c.loop-pair.invariant.0)) t f),
     )
 
 pub returns : goal.returns

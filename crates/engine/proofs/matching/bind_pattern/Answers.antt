@@ -23,11 +23,11 @@ unwrap-symbol-requires c =
     let step = c.in-Some.ensures.steps.1 in
     is_symbol c.loop-pair.invariant.1 c.requires.pattern.1 _ _ step.0 (step.1 ∙ c.loop-pair.invariant.0) _ c.symbol_at.ensures
 
-pub match_symbol-requires : goal.match_symbol-requires
-match_symbol-requires c =
+pub match_symbol-requires-clause-some : goal.match_symbol-requires-clause-some
+match_symbol-requires-clause-some c =
     let step = c.in-Some.ensures.steps.1 in
     let enough = room c.loop-pair.invariant.1 c.requires.pattern.1 _ _ step.0 (step.1 ∙ c.loop-pair.invariant.0) in
-    record { some = (enough.0, enough.1); places_inside = enough.2 }
+    (enough.0, enough.1)
 
 pub returns-then-not-match_symbol : goal.returns-then-not-match_symbol
 returns-then-not-match_symbol c ps u h =
