@@ -22,7 +22,7 @@ use Rattle.store.specs.declared.types.Place.{Place}
 use Rattle.store.specs.Stores.{term_in}
 use Rattle.engine.specs.declared.types.Bindings.{Bindings}
 use Rattle.engine.specs.Matching.{bound, Agrees, term_or, put_in, AllInside, Bound, BoundNow, nothing}
-use Rattle.engine.specs.Matching.{Instance, Extended, MatchedOn, Pattern}
+use Rattle.engine.specs.Matching.{Extended, MatchedOn, Pattern}
 use Rattle.engine.specs.Matching.{stacked, PlacesInside, Pushed, PartsPending}
 use Rattle.engine.specs.Matching.{MatchingWith, Matching, Turned}
 use Rattle.engine.proofs.Pendings.{one_more, stacked_more, inside_below, inside_last}
@@ -319,14 +319,7 @@ fresh_is b e = ap made_of e
 pub all_agree : (st : Store) (b : Bindings) → Agrees st b (put_in st b)
 all_agree st b x r k = ap (term_or st x) k
 
--- matched from no bindings on
-pub instance_first : (st : Store) (l t : Term) (c : Bindings) → MatchedOn st nothing l t (Some c) → Instance st c l t
-instance_first st l t c m = record {
-  is = (m.enough (put_in st c) (all_agree st c)).1;
-  letters = λ x i. m.letters x (inr i);
-  inside = m.inside;
-}
-
+-- not matched from no bindings on
 pub none_first : (st : Store) (l t : Term) → MatchedOn st nothing l t None → (s : ℕ → Term) → put s l ≢ t
 none_first st l t m s e = m s (λ x r k. absurd (unbound x r k)) e
 
