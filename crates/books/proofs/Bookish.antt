@@ -14,8 +14,7 @@ use Rattle.books.proofs.Elements.{nth_getD}
 use Rattle.books.proofs.Glueing.{row_length}
 use Rattle.books.proofs.Sided.{nth_left, nth_right, nth_behind, nth_front}
 use Rattle.books.specs.declared.row.Book.{Book}
-use Rattle.books.specs.declared.row.Sides.{Sides as Slices}
-use Rattle.books.specs.Books.{told, SoundBook, sound_book_in, blank, rule_in, equation_in, RuleAt, EquationAt, CutAt, RuleStands, EquationStands}
+use Rattle.books.specs.Books.{told, SoundBook, sound_book_in, blank, rule_in, equation_in, RuleAt, EquationAt}
 
 module _ (k : Book) (sound : SoundBook k) where
   start : ℕ → ℕ

@@ -1,5 +1,6 @@
 -- A row read by chunks of two words, each of them a symbol: where matching and building have come to when some words are left.
-use Rattle.std.proofs.Common.{◌≡◌, ℕ, ◌+◌, ◌<◌, ◌≤◌, List, ◌++◌, length, get_or, drop, Some, None, Option as Maybe, sym, ap, ◌∙◌, subst, arith, rules}
+use Rattle.std.proofs.Common.{◌≡◌, ℕ, ◌+◌, ◌<◌, ◌≤◌, List, ◌++◌, length, get_or, drop, Some, None}
+use Rattle.std.proofs.Common.{Option as Maybe, sym, ap, ◌∙◌, subst, arith, rules}
 use Rattle.std.proofs.Common.{[], ◌-◌, ◌*◌, ◌%◌, refl, append_assoc, append-nil}
 use Rattle.std.proofs.lemmas.List.{nil_from_length}
 use Rattle.std.proofs.Common.{length-append, length-drop, get_or-drop, drop-drop}

@@ -1,5 +1,6 @@
 -- Rules tried at the top of a term: where the top sign of a left side stands, and what the rules that failed say together.
-use Rattle.std.proofs.Common.{◌≡◌, ℕ, ◌<◌, ◌≤◌, List, ◌∷◌, length, get_or, Some, None, Option as Maybe, ◌≢◌, sym, refl, ap, ◌∙◌, subst, arith}
+use Rattle.std.proofs.Common.{◌≡◌, ℕ, ◌<◌, ◌≤◌, List, ◌∷◌, length, get_or, Some, None, Option as Maybe, ◌≢◌}
+use Rattle.std.proofs.Common.{sym, refl, ap, ◌∙◌, subst, arith}
 use Rattle.rewriting.specs.Terms.{Term, letter, sign, Terms, put, puts, SmallLetter, Fits}
 use Rattle.rewriting.specs.Rules.{Eq}
 use Rattle.rewriting.specs.Order.{Rank, rank, Greater, by_part, by_sign, by_order}

@@ -12,7 +12,8 @@ loop-pair-init c =
     let same = c.into_iter-pair-iterator.ensures.into_iter_gives in
     let cut = c.rchunks_exact-pair-items.ensures in (
       rw same cut.size,
-      rw same (built_from c.requires.few_parts.0 c.requires.space.1 c.requires.few_parts.1 _ _ cut.parts cut.remainder_len _ c.new-built.ensures),
+      rw same (built_from c.requires.few_parts.0 c.requires.space.1 c.requires.few_parts.1 _ _ cut.parts cut.remainder_len _
+          c.new-built.ensures),
     )
 
 pub unwrap-symbol-requires : goal.unwrap-symbol-requires

@@ -13,7 +13,8 @@ loop-pair-init c =
         place = 0;
         there = rw same (sym c.chunks_exact-pair-items.ensures.rest);
         matches = λ ps u h. match_start ps c.args.pattern.now u c.args.store.now c.args.p c.push.new.self.items c.args.bindings.now h
-            c.requires.pattern.0 (only_one c.new-pending.result.items c.push.new.self.items c.args.p c.new-pending.ensures c.push.ensures.items)
+            c.requires.pattern.0
+            (only_one c.new-pending.result.items c.push.new.self.items c.args.p c.new-pending.ensures c.push.ensures.items)
             c.requires.bindings.0 c.requires.bindings.1;
       },
     )
