@@ -1,5 +1,5 @@
 -- Two rows read, and their terms compared.
-use Rattle.std.proofs.Common.{◌≡◌, ℕ, ◌+◌, ◌*◌, ◌≤◌, Bool, true, false, List, [], ◌∷◌, length, Ok, Err, Result, sym}
+use Rattle.std.proofs.Common.{◌≡◌, ℕ, ◌+◌, ◌*◌, ◌≤◌, Bool, List, [], ◌∷◌, length, Ok, Err, Result, sym}
 use Rattle.std.proofs.Common.{refl, ap, ◌∙◌, subst, arith, IsErr}
 use Rattle.std.proofs.lemmas.Bool.{false≢true}
 use Rattle.rewriting.specs.Terms.{Term, size, Fits, SmallLetter}
@@ -18,7 +18,6 @@ use Rattle.store.specs.declared.types.Roots.{Roots}
 use Rattle.store.specs.declared.types.Full.{Full}
 use Rattle.store.specs.declared.types.Full.TheVariants.{NoSlot, NoRoot}
 use Rattle.store.specs.Stores.{held, Inside, RootsKept}
-use Rattle.store.specs.Stacks.{CutTo}
 use Rattle.store.specs.Transfers.{RowOf, Read}
 use Rattle.engine.specs.declared.types.NoRoom.{NoRoom}
 use Rattle.engine.specs.declared.work.Work.{Work}

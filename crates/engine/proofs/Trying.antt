@@ -9,7 +9,7 @@ use Rattle.rewriting.specs.Order.{Rank, rank, Greater, by_part, by_sign, by_orde
 use Rattle.rewriting.specs.Machine.{Still}
 use Rattle.rewriting.proofs.Ordering.{greater_letters}
 use Rattle.rewriting.proofs.Signature.{over_fits, over_letters}
-use Rattle.books.specs.Rows.{row, rows}
+use Rattle.books.specs.Rows.{row}
 use Rattle.books.specs.Indexing.{top_number, rule_top, FirstFrom}
 use Rattle.books.proofs.Elements.{nth_below, nth_is}
 use Rattle.store.specs.declared.types.Store.{Store}

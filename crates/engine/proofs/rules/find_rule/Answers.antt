@@ -1,7 +1,7 @@
 -- No rule matches a letter; from one rule with the term's top sign to the next; and none at all.
-use Rattle.std.proofs.Common.{subst, arith}
+use Rattle.std.proofs.Common.{subst}
 use Rattle.engine.proofs.Matcher.{none_first}
-use Rattle.engine.proofs.Trying.{no_letter, still, Tried, left_from, sign_low, first_tried, more_tried, fewer_left}
+use Rattle.engine.proofs.Trying.{no_letter, still, Tried, sign_low, first_tried, more_tried, fewer_left}
 use Rattle.engine.proofs.rules.find_rule.Goals as goal
 
 pub returns-in_default : goal.returns-in_default

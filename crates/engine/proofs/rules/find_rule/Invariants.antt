@@ -1,5 +1,4 @@
 -- None of the rules before the next one matches, and it has the term's sign at its top; where there is no next one, none matches at all.
-use Rattle.std.proofs.Common.{◌≡◌, ℕ, ◌-◌, ◌<◌, ◌≢◌, length, Some, None, Option as Maybe}
 use Rattle.engine.proofs.Trying.{Tried, left_from}
 use Rattle.engine.proofs.rules.find_rule.Given as goal
 
