@@ -1,10 +1,10 @@
 -- The bucket, by the first part and the hash of the others.
-use Rattle.std.proofs.Common.{◌≡◌, ◌≤◌, ◌+◌, ◌-◌, ◌<◌, ◌/◌, ◌%◌, ℕ, suc, get_or, length, List, take, drop, ap, sym, ◌∙◌, arith}
+use Rattle.std.proofs.Common.{◌≡◌, ◌+◌, ◌-◌, ◌/◌, ◌%◌, ℕ, get_or, length, List, take, drop, ap, ◌∙◌, arith}
 use Rattle.std.proofs.lemmas.List.{length-take-le, length-drop, get_or-take, take_rest}
 use Rattle.std.proofs.lemmas.Grind.{get_or_after_one}
 use lib.Bits.{bit_and}
 use Rattle.store.specs.Slots.{kind_of, arity_of, tag_of}
-use Rattle.store.specs.Chains.{hash_of, mix_of, bucket_of, bucket_by}
+use Rattle.store.specs.Chains.{hash_of, mix_of, bucket_of}
 use Rattle.store.proofs.Chaining.{bucket_no_parts, bucket_parts}
 use Rattle.store.proofs.chains.bucket.Goals as goal
 

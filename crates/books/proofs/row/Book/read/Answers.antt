@@ -1,5 +1,5 @@
 -- The left sides stand in the words, and so the numbers behind their tags are those of their first symbols.
-use Rattle.std.proofs.Common.{◌≡◌, ℕ, ◌+◌, ◌*◌, get_or, length, subst, arith}
+use Rattle.std.proofs.Common.{ℕ, get_or, length, subst, arith}
 use Rattle.rewriting.proofs.Glueing.{size_some}
 use Rattle.books.specs.Reading.{book_of}
 use Rattle.books.specs.Indexing.{Indexed, top_word, rule_top}
