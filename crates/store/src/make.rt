@@ -137,7 +137,7 @@ impl Store<'_> {
             (root_term self.old plan.head roots.old plan.order plan.from)
             self.new roots.new result }
     {
-        if roots.cells.len() / 2 <= plan.from {
+        if roots.room() <= plan.from {
             return Err(Full::NoRoot);
         }
         let p = self.place(roots, plan).ok_or(Full::NoSlot)?;

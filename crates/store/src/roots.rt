@@ -1,6 +1,6 @@
 // Roots in lent words: the stack of places that are kept.
 // Stays in the contracts that the cells hold n roots: n is another number each time, and `truncate` takes any.
-ghost use Rattle.std.specs.Prelude.{◌≡◌, ◌+◌, ◌^◌, ◌<◌};
+ghost use Rattle.std.specs.Prelude.{◌≡◌, ◌+◌, ◌/◌, ◌^◌, ◌<◌, length};
 ghost use Rattle.store.specs.Slots.{kind_of, arity_of};
 ghost use Rattle.store.specs.Roots.{root_at, HasRoots, RootPut};
 ghost use Rattle.store.specs.Stacks.{root_in, StackedOn, PushedOrFull, RootSet, CutTo, in_order, Gathered};
@@ -52,6 +52,13 @@ impl<'a> Roots<'a> {
 }
 
 impl Roots<'_> {
+    // How many roots there are cells for.
+    pub fn room(&self) -> usize
+        ensures { result ≡ length self.now.cells.now / 2 }
+    {
+        self.cells.len() / 2
+    }
+
     // The place that root k is.
     pub fn place(&self, k: usize) -> Place
         requires { HasRoots self.now.cells.now (k + 1) }
@@ -74,7 +81,7 @@ impl Roots<'_> {
         ensures { PushedOrFull self.old p.0 self.new result }
     {
         let top = self.top;
-        if self.cells.len() / 2 <= top {
+        if self.room() <= top {
             return Err(Full::NoRoot);
         }
         self.stack(top, p);

@@ -12,7 +12,7 @@ impl Classes {
         ensures { (i : ℕ) → i < 96 → label result i ≡ i }
     {
         Classes {
-            labels: array::from_fn(|i| Place(i)),
+            labels: array::from_fn(Place),
         }
     }
 

@@ -4,8 +4,8 @@ use Rattle.store.proofs.Sounds.{sound_in}
 use Rattle.store.proofs.Placing.{roots_same, grown_same, carried_grown}
 use Rattle.store.proofs.types.Store.make.Goals as goal
 
-pub returns-then-roots-plan : goal.returns-then-roots-plan
-returns-then-roots-plan c =
+pub returns-then-room-plan : goal.returns-then-room-plan
+returns-then-room-plan c =
     let a = c.args.self.now in
     record {
       sound = sound_in a;
