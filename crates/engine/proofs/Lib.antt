@@ -8,6 +8,7 @@ pub mod Trying
 pub mod Contexts
 pub mod Honesty
 pub mod Advancing
+pub mod Framing
 pub mod Going
 pub mod Entering
 pub mod Onward

@@ -51,10 +51,9 @@ impl Frames<'_> {
         requires { 4 * d + 4 ≤ length self.old.words.now }
         ensures { FramePut self.old d frame self.new }
     {
-        self.words[4 * d] = frame.sign;
-        self.words[4 * d + 1] = frame.others;
-        self.words[4 * d + 2] = frame.done;
-        self.words[4 * d + 3] = asked_word(frame.asked);
+        let asked = asked_word(frame.asked);
+        let words = [frame.sign, frame.others, frame.done, asked];
+        self.words[4 * d..4 * d + 4].copy_from_slice(&words);
     }
 
     // The top frame.
@@ -63,11 +62,13 @@ impl Frames<'_> {
         ensures { result ≡ frame_at self.now.words.now (self.now.depth - 1) }
     {
         let d = self.depth - 1;
+        let words: [u32; 4] = self.words[4 * d..4 * d + 4].try_into().unwrap();
+        let [sign, others, done, asked] = words;
         Frame {
-            sign: self.words[4 * d],
-            others: self.words[4 * d + 1],
-            done: self.words[4 * d + 2],
-            asked: asked_place(self.words[4 * d + 3]),
+            sign,
+            others,
+            done,
+            asked: asked_place(asked),
         }
     }
 
@@ -105,6 +106,7 @@ impl Frames<'_> {
         ensures { GoneOn self.old asked self.new }
     {
         let d = self.depth - 1;
+        // Stays two words by their numbers: the frame's other two are as they were, and `put` would copy them.
         self.words[4 * d + 2] += 1;
         self.words[4 * d + 3] = asked_word(Some(asked));
         self.fresh = self.fresh.min(d);
