@@ -56,7 +56,7 @@ impl Work<'_> {
         if !self.frames.has_space() {
             return Err(NoRoom);
         }
-        if self.roots.room() < self.roots.top + 4 {
+        if self.roots.room() - self.roots.top < 4 {
             return Err(NoRoom);
         }
         if 33 <= self.store.limit - self.store.count {

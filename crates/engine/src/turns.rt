@@ -1,5 +1,6 @@
 // Turns of the machine that brings terms to normal form.
 // Stays in the contracts that a turn can be taken: it relates a book, the work words and a focus, and each turn changes all but the book.
+// Stays with `book` beside `Work`: `Ready` says more than a `Reducer` keeps, and that would have to be shown honest after each write.
 // Stays in the contracts that there is space for a turn: it is so only after it was seen to, and the turn uses it up.
 ghost use Rattle.std.specs.Prelude.{◌≡◌, ◌+◌, ◌<◌, ◌≤◌};
 ghost use Rattle.rewriting.specs.Rules.{Done};
@@ -67,6 +68,7 @@ fn push_others(store: &Store, roots: &mut Roots, p: Place, n: usize)
 }
 
 // The place of a frame's part k: one of n roots from one on, or v.
+// Stays beside `gather` of the store: tried one helper that takes a closure; what `from_fn` asks of it did not close.
 fn frame_part(roots: &Roots, from: usize, n: usize, v: Place, k: usize) -> Place
     requires { (n ≤ 3) × (HasRoots roots.now.cells.now (from + n)) }
     ensures other { k < n → result.0 ≡ root_in roots.now (from + k) }

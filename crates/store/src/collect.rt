@@ -62,6 +62,7 @@ fn mark(ws: &mut [u32], count: usize, roots: &Roots)
 }
 
 // The new place of part k of slot i, which has n parts.
+// Stays beside `gather` of roots: tried one helper that takes a closure; what `from_fn` asks of it did not close.
 fn moved_part(ws: &[u32], i: usize, n: usize, k: usize) -> usize
     requires slot { (HasSlot ws.now i) × (n ≤ 4) }
     requires parts { (m : ℕ) → m < n → HasSlot ws.now (part_at ws.now i m) }

@@ -110,6 +110,7 @@ impl Roots<'_> {
     {
         let Plan { head, from, order } = plan;
         let n = arity(kind(head));
+        // Stays beside `moved_part` and engine's `frame_part`: tried one helper with a closure; what `from_fn` asks of it did not close.
         let parts = array::from_fn(|k| {
             if k < n {
                 self.place(order.at(from, n, k)).0

@@ -51,7 +51,7 @@ pub fn part(ws: &[u32], i: usize, k: usize) -> usize
 }
 
 // Clears cell k of the first n slots.
-// Stays a loop over numbers: `put` names a slot by its number among all words, and a chunk of sixteen words has lost it.
+// Stays a loop over numbers: tried `chunks_exact_mut(SLOT)`; after such a loop a proof knows the number of words, and not what they are.
 pub fn clear(ws: &mut [u32], n: usize, k: usize)
     requires { (16 * n ≤ length ws.old) × (k < 8) }
     ensures { Cleared ws.old n k ws.new }

@@ -12,7 +12,7 @@ pub struct Classes {
 }
 
 // For each class, by its label, the place of what becomes of its terms, once that is built.
-// Stays beside engine's `Bindings`: those are read by a letter's number and refuse a second place; only `new` would be shared.
+// Stays apart from engine's `Bindings`: one type for both would take length and index as parameters, and share a line of `new` and `get`.
 #[derive(Clone, Copy)]
 pub struct Images {
     pub at: [Option<Place>; 96],

@@ -9,9 +9,9 @@ returns-then-not-has_space c rs low run1 =
     no_words rs low c.args.self.now.store c.args.self.now.roots c.args.self.now.frames c.args.focus run1
     (c.if-not-has_space.ensures.no refl)
 
-pub returns-then-self : goal.returns-then-self
-returns-then-self c rs low run1 =
-    no_cells rs low c.args.self.now.store c.args.self.now.roots c.args.self.now.frames c.args.focus run1 (omega (arith, c.if-self.true))
+pub returns-then-room-self-lt4 : goal.returns-then-room-self-lt4
+returns-then-room-self-lt4 c rs low run1 =
+    no_cells rs low c.args.self.now.store c.args.self.now.roots c.args.self.now.frames c.args.focus run1 (omega (arith, c.if-room-self-lt4.true, c.room.ensures))
 
 pub returns-in_err-p : goal.returns-in_err-p
 returns-in_err-p c rs low run1 =
@@ -24,4 +24,4 @@ returns c rs low run1 =
     let new = c.collect.new.self in
     subst (WithSpace rs low c.args.self.now c.args.focus new) (sym c.at.ensures)
     (spaced rs low c.args.self.now.store c.args.self.now.roots c.args.self.now.frames c.args.focus run1 c.place.result c.place.ensures
-    new.store new.roots new.frames c.in_ok-p.p c.in_ok-p.ensures (c.if-not-has_space.ensures.yes refl) (omega (arith, c.if-self.false)))
+    new.store new.roots new.frames c.in_ok-p.p c.in_ok-p.ensures (c.if-not-has_space.ensures.yes refl) (omega (arith, c.if-room-self-lt4.false, c.room.ensures)))
