@@ -2,7 +2,7 @@
 use Rattle.std.proofs.Common.{◌≡◌, ℕ, zero, suc, ◌<◌, ◌≤◌, List, [], ◌∷◌, length, get_or, refl, arith}
 use mathlib.Core.Option.{some, none}
 use Rattle.rewriting.specs.Terms.{nth}
-use Rattle.books.proofs.Reading.{no_some}
+use Rattle.rewriting.proofs.Choosing.{no_some}
 
 pub nth_getD : {A : Type 0} (xs : List A) (i : ℕ) (d : A) → i < length xs → nth xs i ≡ some (get_or xs i d)
 nth_getD [] i d h = absurd (omega arith)

@@ -7,12 +7,10 @@ use Rattle.books.specs.Rows.{row, rows}
 use Rattle.books.specs.Reading.{Allowed, allowed, opens, first, others}
 use Rattle.books.specs.Reading.{Found, symbol, topped, opened, read}
 use Rattle.books.specs.declared.words.Letters.{Letters}
+use Rattle.rewriting.proofs.Choosing.{no_some}
 use Rattle.books.specs.declared.words.Letters.TheVariants.{Small, Any}
 use Rattle.books.proofs.Glueing.{glue_none, first_glue, others_glue, glue_split, count_first, count_others, rows_glue}
 use Rattle.books.proofs.Glueing.{over_first, over_others}
-
-pub no_some : {A : Type 0} {a : A} → none ≡ some a → ⊥
-no_some e = let z : ◌≡◌ {A = ℕ} 0 1 = cc in omega arith
 
 TTrue : (b : Bool) → T b → b ≡ true
 TTrue true h = refl

@@ -10,7 +10,8 @@ use Rattle.books.specs.Reading.{Found, topped, read, left_of, TermsAt, TermsEnd,
 use Rattle.books.specs.declared.words.Symbol.{Symbol}
 use Rattle.books.specs.declared.words.Letters.{Letters}
 use Rattle.books.proofs.Glueing.{row_length, rows_length}
-use Rattle.books.proofs.Reading.{no_some, read_step, read_stuck, read_these, Right, read_right}
+use Rattle.rewriting.proofs.Choosing.{no_some}
+use Rattle.books.proofs.Reading.{read_step, read_stuck, read_these, Right, read_right}
 
 pub drop_two : (ws : List ℕ) (i : ℕ) → i + 2 ≤ length ws → drop i ws ≡ get_or ws i 0 ∷ get_or ws (i + 1) 0 ∷ drop (i + 2) ws
 drop_two ws i h =

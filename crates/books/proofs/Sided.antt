@@ -7,7 +7,7 @@ use Rattle.rewriting.specs.Books.{Sides, AllSides}
 use Rattle.books.specs.Rows.{row, rows, rowEs, rowTerms}
 use Rattle.books.specs.Reading.{others, paired}
 use Rattle.books.specs.Layouts.{sides, listed, Short}
-use Rattle.books.proofs.Reading.{no_some}
+use Rattle.rewriting.proofs.Choosing.{no_some}
 
 -- a list of terms as parts
 abbrev pub terms : List Term → Terms

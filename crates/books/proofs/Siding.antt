@@ -14,7 +14,7 @@ use Rattle.books.specs.Reading.{first, others, TermAt, TermEnd}
 use Rattle.books.specs.Layouts.{listed, Short, SidesAt, SidesRead}
 use Rattle.books.specs.declared.words.Letters.TheVariants.{Small}
 use Rattle.books.proofs.Glueing.{glue_split, count_first, count_others, rows_glue, over_glue, over_first, over_others}
-use Rattle.books.proofs.Reading.{no_some}
+use Rattle.rewriting.proofs.Choosing.{no_some}
 use Rattle.books.proofs.Unique.{rows_once}
 
 short_glue : (ts us : Terms) → Short ts → Short us → Short (glue ts us)

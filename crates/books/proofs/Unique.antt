@@ -2,10 +2,10 @@
 use Rattle.std.proofs.Common.{◌≡◌, ℕ, ◌+◌, ◌*◌, List, [], ◌∷◌, ◌++◌, length, drop, sym, refl, ap, ◌∙◌, subst, ap₂, append-nil, arith}
 use Rattle.std.proofs.Common.{length-append}
 use mathlib.Core.Option.{some}
-use Rattle.rewriting.specs.Terms.{Term, Terms, none1, and1, glue, count, AllOver, SmallLetter, AnyLetter}
+use Rattle.rewriting.specs.Terms.{Term, Terms, none1, and1, glue, count, Over, AllOver, SmallLetter, AnyLetter}
 use Rattle.rewriting.specs.Rules.{Eq}
 use Rattle.rewriting.specs.Books.{Book, Fine}
-use Rattle.books.specs.Rows.{rows, rowTerms, rowWays, Reads, AllFit, WaysFit}
+use Rattle.books.specs.Rows.{row, rows, rowTerms, rowWays, Reads, AllFit, WaysFit}
 use Rattle.books.specs.Reading.{Allowed, read, terms_of, others, paired}
 use Rattle.books.specs.Reading.{book_of, parts_of, eqs_of, rules_of, body_of}
 use Rattle.books.specs.Layouts.{sides, sides_of, listed}
@@ -114,3 +114,10 @@ one_ways ps h ws vs f g e d = ways_once ps ws vs f g (e ∙ sym d)
 
 pub one_reading_lem : OneReading
 one_reading_lem = record { book = one_book; the_book = the_book; term = one_term; ways = one_ways }
+
+-- rows that start alike are of one term
+pub row_once : (ps : List ℕ) (t u : Term) (xs ys : List ℕ) → Over SmallLetter ps t → Over SmallLetter ps u →
+    row t ++ xs ≡ row u ++ ys → t ≡ u
+row_once ps t u xs ys o p e =
+    let q = (rows_once Small ps (and1 t none1) (and1 u none1) xs ys (o, tt) (p, tt) refl (simp append-nil e)).0 in
+    cc

@@ -37,10 +37,6 @@ use Rattle.calls.specs.declared.types.Refusal.{Refusal}
 use Rattle.calls.specs.declared.types.Refusal.TheVariants.{NoBook, Up, NoTerm, Room, Long, Few}
 use Rattle.calls.specs.Calls.{Answer, NormalForm, Outgrown, NormalAnswers, WordsAnswer, refusal_of}
 
--- no roots
-pub none_inside : (a : Store) (q : Roots) → q.top ≡ 0 → Inside a q
-none_inside a q e = record { fits = omega arith; low = λ k l. absurd (omega arith) }
-
 -- what a term of a row, or one that it comes to, is too large for
 module _ (b : Told) (ts : List ℕ) (t : Term) (of : Of b.parts ts t) (n : ℕ) where
   outgrown : (u : Term) → Steps b.rules t u → n < size u → Outgrown b ts n

@@ -14,10 +14,6 @@ use Rattle.engine.specs.Matching.{stacked, PlacesInside, Pushed}
 abbrev pub zero_place : Place
 zero_place = record { 0 = 0 }
 
-pub count_parts_by : (d : ℕ → Term) (p : ℕ → ℕ) (k n : ℕ) → count (parts_by d p k n) ≡ n
-count_parts_by d p k zero = refl
-count_parts_by d p k (suc n) = omega (arith, count_parts_by d p (k + 1) n)
-
 pub one_more : (ps : List Place) (p : Place) → length (ps ++ p ∷ []) ≡ length ps + 1
 one_more ps p = length-append ps (p ∷ [])
 

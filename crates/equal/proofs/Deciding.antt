@@ -17,7 +17,8 @@ use Rattle.books.specs.Rows.{Reads, rowWays}
 use Rattle.books.proofs.Unique.{the_book}
 use Rattle.equal.specs.declared.types.Judged.TheVariants.{Settles}
 use Rattle.equal.specs.Promises.{JudgedSays}
-use Rattle.equal.proofs.Stable.{Stable, by_dec, twice, dec_words, stable_reads, ways_of, ways_read, ways_fit}
+use Rattle.equal.proofs.Stable.{Stable, by_dec, twice, dec_words, stable_reads, ways_of, ways_read}
+use Rattle.ways.proofs.Remaining.{ways_fit}
 use Rattle.equal.proofs.Excluding.{settles_by}
 
 stable_down : (b : Book) → Stable (AllDown (rank b.ranks) b.rules)

@@ -85,15 +85,3 @@ module _ (ps : List ℕ) where
       ap₂ (λ (n : ℕ) (v : List ℕ). read Any ps n (v ++ rowWays ws)) (sym (count_terms w)) (sym (rows_terms w))
       ∙ read_these Any ps (terms w) (rowWays ws) (over_any ps w f.0) in
       ap (λ (o : Found). then_ways o (ways_of (length ws))) e ∙ ap₂ ◌∷◌ (listed_terms w) (ways_read ws f.1)
-
-way_fits : (ps : List ℕ) (es : List Eq) (t : Term) (w : List Term) (u : Term) → Way ps es t w u → AllFit ps w
-way_fits ps es t [] u h = tt
-way_fits ps es t (v ∷ vs) u h = (h.0, way_fits ps es v vs u h.2)
-
-pub ways_fit : (ps : List ℕ) (es rs : List Eq) (ws : List (List Term)) → Ways ps es rs ws → WaysFit ps ws × (length ws ≡ length rs)
-ways_fit ps es [] [] h = (tt, refl)
-ways_fit ps es [] (w ∷ ws) h = absurd h
-ways_fit ps es (r ∷ rs) [] h = absurd h
-ways_fit ps es (r ∷ rs) (w ∷ ws) h =
-    let g = ways_fit ps es rs ws h.1 in
-    ((way_fits ps es r.left w r.right h.0, g.0), omega (arith, g.1))

@@ -14,7 +14,7 @@ use Rattle.order.specs.declared.terms.Comparison.{Comparison}
 use Rattle.order.specs.declared.terms.Parts.{Parts}
 use Rattle.order.specs.Comparing.{by, OnLeft, OnRight, AllOnLeft, AllOnRight, Split, Splits, Equates, Compares, SameFirst, Skips, DifferAt}
 use Rattle.order.proofs.Telling.{tells_through, first_none, first_none_right, first_cases, first_here}
-use Rattle.order.proofs.Standing.{row_once}
+use Rattle.books.proofs.Unique.{row_once}
 
 -- the same words are the same term
 module _ (p : Comparison) (k j : ℕ) {E : List ℕ → List ℕ → Bool}

@@ -1,8 +1,8 @@
 -- Terms that stand in words: where their parts stand and where they end.
 use Rattle.std.proofs.Common.{◌≡◌, ℕ, zero, suc, ◌+◌, ◌-◌, ◌*◌, ◌≤◌, List, [], ◌∷◌, ◌++◌, length, get_or, take, drop, Some, None, sym, refl}
-use Rattle.std.proofs.Common.{ap, ◌∙◌, subst, append_assoc, append-nil, arith, length-append, length-drop}
+use Rattle.std.proofs.Common.{ap, ◌∙◌, subst, append_assoc, arith, length-append, length-drop}
 use Rattle.std.proofs.lemmas.List.{get_or-drop, drop-drop, drop_at, take_at}
-use Rattle.rewriting.specs.Terms.{Term, letter, sign, Terms, none1, and1, count, size, Over, SmallLetter}
+use Rattle.rewriting.specs.Terms.{Term, letter, sign, Terms, none1, and1, count, size}
 use Rattle.rewriting.specs.Order.{rank}
 use Rattle.rewriting.proofs.Glueing.{size_some}
 use Rattle.books.specs.Rows.{row, rows}
@@ -11,7 +11,7 @@ use Rattle.books.specs.declared.words.Letters.TheVariants.{Small}
 use Rattle.books.specs.declared.words.Symbol.TheVariants.{Letter, Sign}
 use Rattle.books.proofs.Elements.{nth_is}
 use Rattle.books.proofs.Glueing.{row_length}
-use Rattle.books.proofs.Unique.{rows_once}
+use Rattle.books.proofs.Unique.{row_once}
 use Rattle.order.specs.declared.terms.Parts.{Parts}
 use Rattle.order.specs.Comparing.{Stands, Stand, Split, Splits}
 
@@ -19,13 +19,6 @@ pub rank_getD : (rs : List ℕ) (f : ℕ) → rank rs f ≡ get_or rs f 0
 rank_getD [] f = refl
 rank_getD (r ∷ rs) zero = refl
 rank_getD (r ∷ rs) (suc f) = rank_getD rs f
-
--- rows that start alike are of one term
-pub row_once : (ps : List ℕ) (t u : Term) (xs ys : List ℕ) → Over SmallLetter ps t → Over SmallLetter ps u →
-    row t ++ xs ≡ row u ++ ys → t ≡ u
-row_once ps t u xs ys o p e =
-    let q = (rows_once Small ps (and1 t none1) (and1 u none1) xs ys (o, tt) (p, tt) refl (simp append-nil e)).0 in
-    cc
 
 module _ (ps ws : List ℕ) (k : ℕ) where
   stands_room : (t : Term) → Stands ps ws k t → k + 2 * size t ≤ length ws

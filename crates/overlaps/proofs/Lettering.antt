@@ -16,7 +16,9 @@ use Rattle.store.proofs.Cases.{le_or_lt, last_or_below, eq_or}
 use Rattle.store.proofs.Placing.{grown_then}
 use Rattle.engine.specs.declared.types.Bindings.{Bindings}
 use Rattle.engine.specs.Matching.{bound, term_or, put_in, AllInside, Bound}
+use Rattle.engine.proofs.Builts.{put_in_bound}
 use Rattle.unification.specs.Unifiers.{LettersBound}
+use Rattle.unification.proofs.Lettering.{same_letter}
 use Rattle.overlaps.specs.Pairs.{LettersMade, Shifted, HoleBound, AllGiven}
 
 -- only letters that have a place in the array are bound
@@ -37,9 +39,6 @@ shifted_by b xs l n e = record {
       (λ k. get_or_past (replicate 16 None) (x - 16) None k) (λ k. get_or-replicate 16 (x - 16) None None k) (le_or_lt 16 (x - 16));
 }
 
-letter_is : {x y : ℕ} → letter x ≡ letter y → x ≡ y
-letter_is e = cc
-
 -- one letter more in the store
 pub one_letter : {a st su : Store} {n : ℕ} {b c : Bindings} {p : Place} → n < 32 → c.at ≡ set b.at n (Some p) →
     LettersMade n a st b → LetterShared st n su p → LettersMade (n + 1) a su c
@@ -50,7 +49,7 @@ one_letter {a} {st} {su} {n} {b} {c} {p} l e m s = record {
   full = ap length e ∙ (length-set b.at n (Some p) ∙ m.full);
   low = λ i x h t. ⊎_elim
       (λ z. let q : i ≡ p.0 = s.new i z h in
-      let d : n ≡ x = letter_is (sym (ap (λ (j : ℕ). term_in su j) q ∙ s.term) ∙ t) in omega arith)
+      let d : n ≡ x = same_letter (sym (ap (λ (j : ℕ). term_in su j) q ∙ s.term) ∙ t) in omega arith)
       (λ z. let d : x < n = m.low i x z (sym (s.grown.terms i z) ∙ t) in omega arith)
       (le_or_lt st.count i);
   letters = λ x h. ⊎_elim (λ z. subst Held (sym z) held_here) (λ z. held_before x z) (last_or_below x n (omega arith));
@@ -84,9 +83,6 @@ same_place e d = cc
 none_some : {x : Maybe Place} {q : Place} → x ≡ None → x ≡ Some q → ⊥
 none_some e d = let z : ◌≡◌ {A = ℕ} 0 1 = cc in omega arith
 
-put_in_is : (st : Store) (b : Bindings) (x : ℕ) (p : Place) → bound b x ≡ Some p → put_in st b x ≡ term_in st p.0
-put_in_is st b x p e = ap (term_or st x) e
-
 pub grown_inside : (st su : Store) (b : Bindings) → Grown st su → AllInside st b → AllInside su b
 grown_inside st su b g h x q e = let l = h x q e in omega (arith, g.longer)
 
@@ -103,7 +99,7 @@ letters_grown st su b g h x l =
 
 pub letters_put : (st : Store) (b : Bindings) (t : Term) → LettersBound st b → ((x : ℕ) → In x t → x < 32) → put (put_in st b) t ≡ t
 letters_put st b t h k = put_agree (put_in st b) letter t
-    (λ x i. let (p, e, l, d) = h x (k x i) in put_in_is st b x p e ∙ d) ∙ put_letter t
+    (λ x i. let (p, e, l, d) = h x (k x i) in put_in_bound st b x p e ∙ d) ∙ put_letter t
 
 -- renamed letters
 module _ (b c : Bindings) (sh : Shifted b c) where
@@ -118,13 +114,13 @@ module _ (b c : Bindings) (sh : Shifted b c) where
 
   pub renamed_put : (st : Store) (t : Term) → LettersBound st b → ((x : ℕ) → In x t → x < 16) → put (put_in st c) t ≡ renamed t
   renamed_put st t h k = put_agree (put_in st c) (λ x. letter (x + 16)) t
-      (λ x i. let l = k x i in let (p, e, j, d) = h (x + 16) (omega arith) in put_in_is st c x p (sh.low x l ∙ e) ∙ d)
+      (λ x i. let l = k x i in let (p, e, j, d) = h (x + 16) (omega arith) in put_in_bound st c x p (sh.low x l ∙ e) ∙ d)
 
   pub shifted_put : (st su : Store) (t : Term) → Grown st su → AllGiven st b → ((x : ℕ) → In x t → x < 16) →
       put (put_in su c) t ≡ put (put_in st b) (renamed t)
   shifted_put st su t g a k = put_agree (put_in su c) (λ x. put_in st b (x + 16)) t
       (λ x i. let l = k x i in let (p, e) = a.all (x + 16) (omega arith) in
-      put_in_is su c x p (sh.low x l ∙ e) ∙ (g.terms p.0 (a.inside (x + 16) p e) ∙ sym (put_in_is st b (x + 16) p e)))
+      put_in_bound su c x p (sh.low x l ∙ e) ∙ (g.terms p.0 (a.inside (x + 16) p e) ∙ sym (put_in_bound st b (x + 16) p e)))
       ∙ sym (put_put (put_in st b) (λ x. letter (x + 16)) t)
 
 -- a hole
@@ -146,9 +142,9 @@ module _ (b : Bindings) (p : Place) (c : Bindings) (hb : HoleBound b p c) where
   hole_put st su {t = t} place g a k =
       put_fill place (put_in su c) letter (letter 16)
       ∙ (fill_agree place (put_in su c) (put_in st b) (put_in su c 16) agree
-      ∙ ap (fill place (put_in st b)) (put_in_is su c 16 p hb.here))
+      ∙ ap (fill place (put_in st b)) (put_in_bound su c 16 p hb.here))
     where
       agree : (x : ℕ) → In x t → put_in su c x ≡ put_in st b x
       agree x i =
           let l = k x i in let (q, e) = a.all x (omega arith) in let n : x ≢ 16 = omega arith in
-          put_in_is su c x q (hb.others x n ∙ e) ∙ (g.terms q.0 (a.inside x q e) ∙ sym (put_in_is st b x q e))
+          put_in_bound su c x q (hb.others x n ∙ e) ∙ (g.terms q.0 (a.inside x q e) ∙ sym (put_in_bound st b x q e))

@@ -13,16 +13,10 @@ use Rattle.books.specs.Reading.{TermEnd}
 use Rattle.books.specs.Books.{told, rule_in, sound_book_in}
 use Rattle.books.proofs.Bookish.{is_rule, rule_sides}
 use Rattle.books.proofs.Glueing.{row_length}
-use Rattle.books.proofs.Unique.{rows_once}
+use Rattle.books.proofs.Unique.{row_once}
 use Rattle.engine.proofs.Trying.{greater_sign}
 use Rattle.overlaps.specs.Positions.{index, At, SameSign, OverlapIs, OverlapOrNone}
 use Rattle.overlaps.proofs.Positions.{at_index, behind, words_from, word_from, part_length}
-
-row_once : (ps : List ℕ) (t u : Term) (xs ys : List ℕ) → Over SmallLetter ps t → Over SmallLetter ps u →
-    row t ++ xs ≡ row u ++ ys → t ≡ u
-row_once ps t u xs ys o p e =
-    let q = (rows_once Small ps (and1 t none1) (and1 u none1) xs ys (o, tt) (p, tt) refl (simp append-nil e)).0 in
-    cc
 
 first_sign : (v : Term) (zs : List ℕ) → (get_or (row v ++ zs) 0 0 ≡ 0 → ⊥) → (f : ℕ) × (vs : Terms) × (v ≡ sign f vs)
 first_sign (letter x) zs n = absurd (n refl)

@@ -9,7 +9,7 @@ use Rattle.store.specs.declared.types.Place.{Place}
 use Rattle.store.specs.declared.types.Node.{Node}
 use Rattle.store.specs.declared.types.Node.TheVariants.{Letter, Sign}
 use Rattle.store.specs.Stores.{Sound, Shows, term_in, part_in, parts_in}
-use Rattle.engine.proofs.Pendings.{count_parts_by}
+use Rattle.store.proofs.Emitting.{count_parts}
 use Rattle.unification.specs.declared.types.Classes.{Classes}
 use Rattle.unification.specs.Classes.{label, IsSign, Labelled, Respects, SameClass, ClosedAt, NoneRespects, Forced, Merged, Each}
 use Rattle.unification.specs.declared.types.Clash.{Clash}
@@ -37,8 +37,8 @@ module _ (st : Store) (c : Classes) (w : Labelled st st.count c) (i j : ℕ) (lo
       let e = signs_one f n g m si.2 sj.2 r h in
       let same : f ≡ g = cc in
       let k : puts r (parts_in st i n) ≡ puts r (parts_in st j m) = cc in
-      ne (ap₂ Sign same (sym (count_parts_by (λ z. term_in st z) (λ z. part_in st i z) 0 n) ∙ sym (count_puts r (parts_in st i n))
-      ∙ ap count k ∙ count_puts r (parts_in st j m) ∙ count_parts_by (λ z. term_in st z) (λ z. part_in st j z) 0 m))
+      ne (ap₂ Sign same (sym (count_parts (λ z. term_in st z) (λ z. part_in st i z) 0 n) ∙ sym (count_puts r (parts_in st i n))
+      ∙ ap count k ∙ count_puts r (parts_in st j m) ∙ count_parts (λ z. term_in st z) (λ z. part_in st j z) 0 m))
 
   module _ (sound : Sound st) (f n : ℕ) (si : Shows st i (Sign f n)) (sj : Shows st j (Sign f n)) where
     part_low_i : (k : ℕ) → k < n → part_in st i k < st.count

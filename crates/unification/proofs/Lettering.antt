@@ -40,7 +40,7 @@ found_none st b e = record {
   stands = λ x p d. absurd (some_is_none (sym d ∙ none_bound b e x));
 }
 
-same_letter : {x y : ℕ} → letter x ≡ letter y → x ≡ y
+pub same_letter : {x y : ℕ} → letter x ≡ letter y → x ≡ y
 same_letter e = cc
 
 letter_or_sign : {x f : ℕ} {ts : Terms} → sign f ts ≡ letter x → ⊥

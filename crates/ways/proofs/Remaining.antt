@@ -15,7 +15,7 @@ way_fits : (ps : List ℕ) (es : List Eq) (t : Term) (w : List Term) (u : Term) 
 way_fits ps es t [] u h = tt
 way_fits ps es t (v ∷ w) u h = (h.0, way_fits ps es v w u h.2)
 
-ways_fit : (ps : List ℕ) (es rs : List Eq) (ws : List (List Term)) → Ways ps es rs ws → WaysFit ps ws × (length ws ≡ length rs)
+pub ways_fit : (ps : List ℕ) (es rs : List Eq) (ws : List (List Term)) → Ways ps es rs ws → WaysFit ps ws × (length ws ≡ length rs)
 ways_fit ps es [] [] h = (tt, refl)
 ways_fit ps es [] (w ∷ ws) h = absurd h
 ways_fit ps es (r ∷ rs) [] h = absurd h

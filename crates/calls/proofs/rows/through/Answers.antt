@@ -8,7 +8,8 @@ use Rattle.books.specs.Books.{told}
 use Rattle.store.specs.Stores.{term_in}
 use Rattle.store.specs.Transfers.{WrittenOrShort}
 use Rattle.engine.proofs.Honesty.{honest_carried}
-use Rattle.calls.proofs.Through.{none_inside, few_parts, row_here, loading, startable, one_root, normal, not_read, stopped}
+use Rattle.engine.proofs.Pairing.{none_inside}
+use Rattle.calls.proofs.Through.{few_parts, row_here, loading, startable, one_root, normal, not_read, stopped}
 use Rattle.calls.proofs.Through.{cells_long, refused}
 use Rattle.calls.proofs.rows.through.Goals as goal
 
