@@ -22,8 +22,8 @@ const MOST_LETTERS: u32 = 256;
 pub(crate) struct Names<'a> {
     pub(crate) cursor: Cursor<'a>,
     pub(crate) signature: Signature,
-    // whether signs say their ranks, as the first does
-    ranked: bool,
+    // whether signs say their ranks, as the first does; nothing before the first
+    ranked: Option<bool>,
 }
 
 impl<'a> Names<'a> {
@@ -31,7 +31,7 @@ impl<'a> Names<'a> {
         Names {
             cursor: Cursor::new(heap, text, 0),
             signature: Signature::new(heap),
-            ranked: false,
+            ranked: None,
         }
     }
 
@@ -88,10 +88,7 @@ impl<'a> Names<'a> {
         self.cursor.expect(Kind::Slash, Expected::Words("`/` and the number of parts"))?;
         let parts = self.parts()?;
         let says = self.cursor.token.is_word(b"rank");
-        if number == 0 {
-            self.ranked = says;
-        }
-        let rank = match (self.ranked, says) {
+        let rank = match (*self.ranked.get_or_insert(says), says) {
             (true, true) => self.rank()?,
             (false, false) => number,
             (true, false) => {
