@@ -1,5 +1,6 @@
 -- Where tokens stand in a text, and what they hold of it.
-use Rattle.std.specs.Prelude.{◌≡◌, ℕ, ◌+◌, ◌<◌, ◌≤◌, Bool, cond, ◌&&◌, ◌||◌, List, length, take, drop, ◌==◌, ◌≢◌, Option as Maybe, None, Some, false}
+use Rattle.std.specs.Prelude.{◌≡◌, ℕ, ◌+◌, ◌<◌, ◌≤◌, Bool, cond, ◌&&◌, ◌||◌, List, length, take, drop, ◌==◌, ◌≢◌}
+use Rattle.std.specs.Prelude.{Option as Maybe, None, Some, false}
 use Rattle.std.specs.Char.{is_ascii_digit, is_ascii_alphabetic}
 use Rattle.lexing.specs.declared.lexer.Kind.{Kind}
 use Rattle.lexing.specs.declared.lexer.Kind.TheVariants.{Name, Open, Close, Comma, Slash, Equals, Arrow, Odd, End}

@@ -113,8 +113,9 @@ impl<'a> Names<'a> {
             return Err(self.cursor.fault(Expected::Words("`signs`")));
         }
         self.sign(0)?;
+        // Stays a count: by `signs.len()` the loop's measure would need a clause on the list of each of `sign`, `name`, `parts` and `rank`.
         let mut count = 1;
-        // Stays a loop: tried one function with a closure for an entry: the `&'static str` in the closure's error is not covered.
+        // Stays a loop: tried a closure for an entry: the borrow checker doesn't cover its call, as its `Error` holds a `&'static str`.
         while entry_comes(self.cursor, count, MOST_SIGNS, "signs")? {
             self.sign(count)?;
             count += 1;
@@ -127,8 +128,8 @@ impl<'a> Names<'a> {
         if !self.cursor.take_word(b"letters") {
             return Ok(());
         }
+        // Stays a count and a loop, as in `take_signs`.
         let mut count = 0;
-        // Stays a loop, as in `take_signs`.
         while entry_comes(self.cursor, count, MOST_LETTERS, "letters")? {
             let name = self.name()?;
             self.signature.letters.push(name)?;

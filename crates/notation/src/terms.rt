@@ -1,4 +1,5 @@
 // Terms, read with a stack of the signs whose parts are not all read yet.
+// Stays a `Vec` with a clause on what is added: the rows of sides, of ways and of pairs have three bounds, so no one type serves.
 ghost use Rattle.std.specs.Prelude.{◌+◌, ◌*◌, ◌<◌, ◌≤◌, vec_len};
 
 use crate::parser::Parser;
