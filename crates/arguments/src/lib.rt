@@ -15,7 +15,7 @@ pub const MOST_WORK: usize = 851_968;
 
 // Where a text comes from.
 // Stays an enum: the standard input is an input too, and that none is named is told by an Option around it.
-#[derive(Clone, Copy, PartialEq, Eq)]
+#[derive(Clone, Copy, Debug, PartialEq, Eq)]
 pub enum Input<'a> {
     Stdin,
     File(&'a str),
@@ -32,7 +32,7 @@ impl fmt::Display for Input<'_> {
 }
 
 // What is to be done. Where an input is not named, it is the standard input.
-#[derive(Clone, Copy)]
+#[derive(Clone, Copy, Debug, PartialEq, Eq)]
 pub struct Options<'a> {
     // whether books and terms come as decimal words
     pub rows: bool,
@@ -44,7 +44,7 @@ pub struct Options<'a> {
     pub ghost within: { work ≤ MOST_WORK },
 }
 
-#[derive(Clone, Copy)]
+#[derive(Clone, Copy, Debug, PartialEq, Eq)]
 pub enum Asked<'a> {
     Help,
     Version,
@@ -52,7 +52,7 @@ pub enum Asked<'a> {
 }
 
 // Why the command line asks for nothing.
-#[derive(Clone, Copy)]
+#[derive(Clone, Copy, Debug, PartialEq, Eq)]
 pub enum Refusal<'a> {
     UnknownOption(&'a str),
     // a file that `judge` has no use for

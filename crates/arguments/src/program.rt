@@ -8,7 +8,7 @@ use std::process::ExitCode;
 use std::{env, fmt, io};
 
 // `judge` takes one file, a book; `tell` takes a book and then pairs of terms.
-#[derive(Clone, Copy, PartialEq, Eq)]
+#[derive(Clone, Copy, Debug, PartialEq, Eq)]
 pub enum Program {
     Judge,
     Tell,
@@ -24,6 +24,7 @@ impl fmt::Display for Program {
 }
 
 // The program ends with status 1. Why has been told on the standard error.
+#[derive(Clone, Copy, Debug, PartialEq, Eq)]
 pub struct Stopped;
 
 impl From<io::Error> for Stopped {

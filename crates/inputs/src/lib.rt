@@ -45,7 +45,7 @@ impl Source {
 }
 
 // Why nothing can be read.
-#[derive(Drop)]
+#[derive(Debug, Drop)]
 pub enum Trouble {
     Io(io::Error),
     TooLong,
@@ -66,7 +66,7 @@ impl From<Error> for Trouble {
 }
 
 // What a program says of trouble with an input: with the place in the text where there is one.
-#[derive(Drop)]
+#[derive(Debug, Drop)]
 struct Complaint<'a> {
     program: Program,
     input: Input<'a>,

@@ -42,18 +42,26 @@ impl<'a> Cursor<'a> {
         *self = Cursor::new(self.heap, self.text, self.token.end());
     }
 
-    // Takes a token of this kind, if it comes next.
+    // Goes on to the next token if this one is what was looked for.
     // Stays bools, here and below: each answers whether the token came.
+    fn take_if(&mut self, found: bool) -> bool
+        ensures found { result ≡ found }
+        ensures taken { IsTrue result → Advances self.old self.new }
+        ensures left { result ≡ false → self.new ≡ self.old }
+    {
+        if found {
+            self.advance();
+        }
+        found
+    }
+
+    // Takes a token of this kind, if it comes next.
     pub fn take(&mut self, kind: Kind) -> bool
         ensures found { IsTrue result ↔ (self.old.token.kind ≡ kind) }
         ensures taken { IsTrue result → Advances self.old self.new }
         ensures left { result ≡ false → self.new ≡ self.old }
     {
-        let found = self.token.is(kind);
-        if found {
-            self.advance();
-        }
-        found
+        self.take_if(self.token.is(kind))
     }
 
     // Takes this word, if it comes next.
@@ -62,11 +70,7 @@ impl<'a> Cursor<'a> {
         ensures taken { IsTrue result → Advances self.old self.new }
         ensures left { result ≡ false → self.new ≡ self.old }
     {
-        let found = self.token.is_word(word);
-        if found {
-            self.advance();
-        }
-        found
+        self.take_if(self.token.is_word(word))
     }
 
     // Takes a token of this kind, which has to come next.
@@ -100,7 +104,7 @@ impl<'a> Cursor<'a> {
                 found,
                 expected,
             }),
-            Err(_) => Error::Memory,
+            Err(e) => Error::from(e),
         }
     }
 

@@ -1,5 +1,6 @@
 // What is wrong with a text: where, what was found there, and what was expected.
 ghost use Rattle.std.specs.Prelude.{◌≡◌, ◌+◌, ◌^◌, ◌<◌};
+ghost use Rattle.lexing.specs.declared.fault.Error.TheVariants.{Memory};
 ghost use Rattle.lexing.specs.Places.{past, place_of};
 
 use crate::lexer::is_continuation;
@@ -63,7 +64,9 @@ pub enum Error {
 }
 
 impl From<AllocError> for Error {
-    fn from(_e: AllocError) -> Error {
+    fn from(_e: AllocError) -> Error
+        ensures { result ≡ Memory }
+    {
         Error::Memory
     }
 }

@@ -122,8 +122,8 @@ fn end_of(text: &[u8], from: usize, kind: Kind) -> usize
     find_from(text, from, |b| !continues(kind, *b))
 }
 
-// The kind of a token, by its first byte and the next.
-fn kind_of(first: u8, second: u8) -> Kind
+// The kind of a token, by its first byte and the next, if there is one.
+fn kind_of(first: u8, second: Option<u8>) -> Kind
     ensures { result ≡ kind first second }
 {
     match first {
@@ -132,7 +132,7 @@ fn kind_of(first: u8, second: u8) -> Kind
         b',' => Kind::Comma,
         b'/' => Kind::Slash,
         b'=' => Kind::Equals,
-        b'-' if second == b'>' => Kind::Arrow,
+        b'-' if second == Some(b'>') => Kind::Arrow,
         b if is_name_byte(b) => Kind::Name,
         _ => Kind::Odd,
     }
@@ -145,9 +145,8 @@ fn extent(text: &[u8], start: usize) -> (Kind, usize)
     let Some(first) = text.get(start) else {
         return (Kind::End, start);
     };
-    let second = text.get(start + 1).copied().unwrap_or(0);
-    let kind = kind_of(*first, second);
-    if second == b'>' && kind == Kind::Arrow {
+    let kind = kind_of(*first, text.get(start + 1).copied());
+    if kind == Kind::Arrow {
         return (kind, start + 2);
     }
     (kind, end_of(text, start + 1, kind))

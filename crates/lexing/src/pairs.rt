@@ -22,7 +22,7 @@ pub enum Line {
 }
 
 // The rows of two terms.
-#[derive(Drop)]
+#[derive(Debug, Drop, PartialEq, Eq)]
 pub struct Pair {
     pub one: Vec<u32>,
     pub other: Vec<u32>,

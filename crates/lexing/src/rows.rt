@@ -1,6 +1,7 @@
 // Rows as text: the decimal words of a book on one line, and those of its ways on the next.
 // Stays a text with a place, as in the lexer: faults tell where a word stands in the whole text.
 ghost use Rattle.std.specs.Prelude.{◌≤◌, length, IfOk, vec_len};
+ghost use Rattle.lexing.specs.declared.rows.TheConstants.{MOST_WORDS};
 
 use crate::cursor::Cursor;
 use crate::fault::{Error, Expected};
@@ -11,10 +12,12 @@ use std::alloc::Global;
 pub const MOST_WORDS: usize = 16_451;
 
 // The row of a book, or of none, and that of its ways.
-#[derive(Drop)]
+#[derive(Debug, Drop, PartialEq, Eq)]
 pub struct Rows {
     pub book: Vec<u32>,
     pub ways: Vec<u32>,
+    pub ghost book_short: { vec_len book ≤ MOST_WORDS },
+    pub ghost ways_short: { vec_len ways ≤ MOST_WORDS },
 }
 
 // The place of the end of the line that goes on at `from`, or of the end of the text.
@@ -43,9 +46,7 @@ fn row(heap: Global, text: &[u8], from: usize) -> Result<Vec<u32>, Error>
 }
 
 // Reads the two rows. Any words will do; the second line may be empty or absent, and after it nothing follows.
-pub fn read_rows(heap: Global, text: &str) -> Result<Rows, Error>
-    ensures { IfOk result (λ k. (vec_len k.book ≤ MOST_WORDS) × (vec_len k.ways ≤ MOST_WORDS)) }
-{
+pub fn read_rows(heap: Global, text: &str) -> Result<Rows, Error> {
     let bytes = text.as_bytes();
     let book = row(heap, bytes, 0)?;
     let second = line_end(bytes, 0).saturating_add(1);

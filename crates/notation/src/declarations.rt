@@ -22,8 +22,8 @@ const MOST_LETTERS: u32 = 256;
 pub(crate) struct Names<'a> {
     pub(crate) cursor: Cursor<'a>,
     pub(crate) signature: Signature,
-    // whether signs say their ranks, as the first does
-    ranked: bool,
+    // whether signs say their ranks, as the first does; nothing before the first
+    ranked: Option<bool>,
 }
 
 impl<'a> Names<'a> {
@@ -31,7 +31,7 @@ impl<'a> Names<'a> {
         Names {
             cursor: Cursor::new(heap, text, 0),
             signature: Signature::new(heap),
-            ranked: false,
+            ranked: None,
         }
     }
 
@@ -88,10 +88,7 @@ impl<'a> Names<'a> {
         self.cursor.expect(Kind::Slash, Expected::Words("`/` and the number of parts"))?;
         let parts = self.parts()?;
         let says = self.cursor.token.is_word(b"rank");
-        if number == 0 {
-            self.ranked = says;
-        }
-        let rank = match (self.ranked, says) {
+        let rank = match (*self.ranked.get_or_insert(says), says) {
             (true, true) => self.rank()?,
             (false, false) => number,
             (true, false) => {
@@ -116,8 +113,9 @@ impl<'a> Names<'a> {
             return Err(self.cursor.fault(Expected::Words("`signs`")));
         }
         self.sign(0)?;
+        // Stays a count: by `signs.len()` the loop's measure would need a clause on the list of each of `sign`, `name`, `parts` and `rank`.
         let mut count = 1;
-        // Stays a loop: tried one function with a closure for an entry: the `&'static str` in the closure's error is not covered.
+        // Stays a loop: tried a closure for an entry: the borrow checker doesn't cover its call, as its `Error` holds a `&'static str`.
         while entry_comes(self.cursor, count, MOST_SIGNS, "signs")? {
             self.sign(count)?;
             count += 1;
@@ -130,8 +128,8 @@ impl<'a> Names<'a> {
         if !self.cursor.take_word(b"letters") {
             return Ok(());
         }
+        // Stays a count and a loop, as in `take_signs`.
         let mut count = 0;
-        // Stays a loop, as in `take_signs`.
         while entry_comes(self.cursor, count, MOST_LETTERS, "letters")? {
             let name = self.name()?;
             self.signature.letters.push(name)?;

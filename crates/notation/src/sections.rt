@@ -1,4 +1,5 @@
 // The sections that follow the names: equations, and rules with their ways.
+// Stays a `Vec` with clauses on what is added: a type could hold the row's bound, and each step would need the same clause to keep it.
 ghost use Rattle.std.specs.Prelude.{◌+◌, ◌≤◌, IfOk, vec_len};
 ghost use Rattle.lexing.specs.declared.rows.TheConstants.{MOST_WORDS};
 

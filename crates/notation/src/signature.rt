@@ -29,6 +29,7 @@ impl Signature {
         }
     }
 
+    // Stays two functions: they share `position` and `try_from` alone, and one over a closure would need a clause on what the closure says.
     fn sign_named(&self, name: &[u8]) -> Option<u32>
         ensures { IfSome result (SignNamed self.now.signs name.now) }
     {

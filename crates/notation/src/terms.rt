@@ -1,4 +1,5 @@
 // Terms, read with a stack of the signs whose parts are not all read yet.
+// Stays a `Vec` with a clause on what is added: the rows of sides, of ways and of pairs have three bounds, so no one type serves.
 ghost use Rattle.std.specs.Prelude.{◌+◌, ◌*◌, ◌<◌, ◌≤◌, vec_len};
 
 use crate::parser::Parser;
@@ -9,7 +10,7 @@ use lexing::lexer::Kind;
 
 // How many letters and signs a term may have, and below which number its letters are; and how the first limit is told.
 // Stays with `told` beside `symbols`: of a way the words of its row are told, and each of its terms may have what these leave.
-#[derive(Clone, Copy)]
+#[derive(Clone, Copy, Debug, PartialEq, Eq)]
 pub(crate) struct Limits {
     pub(crate) symbols: usize,
     pub(crate) letters: u32,
@@ -18,7 +19,7 @@ pub(crate) struct Limits {
 }
 
 // A sign of which a part is read, and how many of its parts come after that.
-#[derive(Clone, Copy)]
+#[derive(Clone, Copy, Debug, PartialEq, Eq)]
 struct Open<'a> {
     sign: &'a Sign,
     left: u32,
@@ -29,7 +30,7 @@ impl<'a> Parser<'a> {
     fn parts_fault(&self, sign: &Sign, mark: Mark) -> Error {
         match sign.name.clone() {
             Ok(name) => self.cursor.fault(Expected::Parts(mark, sign.parts, name)),
-            Err(_) => Error::Memory,
+            Err(e) => Error::from(e),
         }
     }
 

@@ -6,12 +6,12 @@ use std::io::{BufRead, BufReader, Read};
 // The longest line, with its end, in bytes.
 pub(crate) const MOST_LINE: usize = 262_144;
 
-// How many bytes are read at once.
-const BLOCK: usize = 32_768;
+// How many bytes a buffer holds: of the text that is read, and of the answers that are written.
+pub(crate) const BLOCK: usize = 32_768;
 
 // What comes next in a text. Lines are numbered from 1.
 // Stays an enum: a line that is too long is answered and passed over, so it is neither the end nor an error.
-#[derive(Clone, Copy)]
+#[derive(Clone, Copy, Debug, PartialEq, Eq)]
 pub(crate) enum Next<'a> {
     // a line without its end
     Line(usize, &'a [u8]),

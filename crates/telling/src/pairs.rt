@@ -1,5 +1,5 @@
 // Pairs of terms from a text, each answered on a line.
-use crate::lines::{Lines, MOST_LINE, Next};
+use crate::lines::{BLOCK, Lines, MOST_LINE, Next};
 use answers::told_words;
 use arguments::{Input, Stopped};
 use equal::Told;
@@ -9,9 +9,6 @@ use notation::parse_pair;
 use notation::signature::Signature;
 use std::io;
 use std::io::{BufWriter, Read, Stdout, Write};
-
-// How many bytes of answers are held at most.
-const BLOCK: usize = 32_768;
 
 // Where pairs come from: by which name messages tell of them, and the names of signs and letters, if they are not rows.
 #[derive(Clone, Copy)]
