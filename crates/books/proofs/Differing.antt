@@ -1,5 +1,5 @@
 -- Elements of which none is among those before it.
-use Rattle.std.proofs.Common.{◌≡◌, ℕ, ◌+◌, ◌<◌, ◌≤◌, Bool, true, false, eqb, List, length, get_or, take, sym, ◌∙◌, subst, arith, eqb-true}
+use Rattle.std.proofs.Common.{◌≡◌, ℕ, ◌+◌, ◌<◌, Bool, true, false, eqb, List, length, get_or, take, sym, ◌∙◌, subst, arith, eqb-true}
 use Rattle.std.specs.Bool.{MatchBool}
 use Rattle.std.specs.List.{IsAnyAnswer, AllWithin, HoldsAt, enumerate_from}
 use Rattle.std.proofs.lemmas.List.{length-take-le, get_or-take}
