@@ -9,6 +9,7 @@ pub mod Bookish
 pub mod Unique
 pub mod Siding
 pub mod Building
+pub mod Differing
 pub mod Waying
 pub mod Forests
 pub mod Indexing

@@ -23,12 +23,7 @@ fn few_parts(parts: &[u32]) -> bool
 fn all_differ(xs: &[u32]) -> bool
     ensures { Tells result (AllDiffer xs.now) }
 {
-    for (j, x) in xs.iter().enumerate() {
-        if xs[..j].contains(x) {
-            return false;
-        }
-    }
-    true
+    xs.iter().enumerate().all(|(j, x)| !xs[..j].contains(x))
 }
 
 fn read_head(words: &[u32]) -> Option<Head>

@@ -37,7 +37,7 @@ impl<'a> Book<'a> {
         ensures { RowRead words.now result }
     {
         let layout = read_book(words)?;
-        let index = index_rules(words, &layout.starts, layout.equations, layout.rules);
+        let index = index_rules(words, &layout);
         Some(Book {
             words,
             layout,

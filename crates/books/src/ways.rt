@@ -18,7 +18,7 @@ fn ways_end(parts: &[u32], rules: usize, words: &[u32]) -> Option<usize>
     ensures { (result ≡ Some (length words.now)) ↔ SomeWays parts.now rules words.now }
 {
     let mut at = 0;
-    // Stays a loop over numbers: it turns once for each rule, from where the way before ended.
+    // Stays a loop over numbers: tried `try_fold`: it leaves an induction over its turns, for which there is no lemma.
     for _ in 0..rules {
         let count = *words.get(at)? as usize;
         at = terms_end(Letters::Any, parts, words, at + 1, count)?;

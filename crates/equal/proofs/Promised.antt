@@ -1,5 +1,5 @@
 -- The promises of the two calls, from what was found.
-use Rattle.std.proofs.Common.{◌≡◌, ℕ, ◌+◌, ◌≤◌, List, length, sym, refl, subst, arith}
+use Rattle.std.proofs.Common.{◌≡◌, ℕ, ◌+◌, ◌≤◌, List, length, Some, None, Option as Maybe, sym, refl, subst, arith}
 use native.Mathlib.Decide.{dec_le}
 use Rattle.rewriting.specs.Books.{Book as ToldBook}
 use Rattle.rewriting.proofs.Different.{different_size}
@@ -12,14 +12,14 @@ use Rattle.books.specs.Books.{told, sound_book_in}
 use Rattle.books.specs.Rows.{Reads}
 use Rattle.books.proofs.Unique.{one_book, one_term, one_ways}
 use Rattle.engine.specs.declared.work.Work.{Work}
-use Rattle.engine.specs.Working.{Fresh}
+use Rattle.engine.specs.Working.{Fresh, SharedOut}
 use Rattle.equal.specs.declared.types.Judged.{Judged}
 use Rattle.equal.specs.declared.types.Judged.TheVariants.{Settles, Up, Apart, Lost, Stray, NoBook, Room, Few}
 use Rattle.equal.specs.declared.types.Told.{Told}
 use Rattle.equal.specs.declared.types.Told.TheVariants.{Same, Different, Unsettled, NoTerm, Full, Unjudged, Small}
 use Rattle.engine.specs.Meeting.{Ample, most_parts}
 use Rattle.equal.specs.Promises.{JudgedSays, TooFew, Large, Theorems, JudgedPost, ToldSays, Grows, ToldPost}
-use Rattle.equal.specs.Judging.{Growing, RoomFor, JudgedIn, not_settled, RowsSay}
+use Rattle.equal.specs.Judging.{Growing, RoomFor, JudgedIn, SharedFor, not_settled, RowsSay}
 use Rattle.equal.specs.Serving.{StillServes}
 use Rattle.equal.proofs.Excluding.{excludes}
 
@@ -34,6 +34,11 @@ theorems = record {
   peaks_tell_lem = peaks_tell_lem;
   settled = settled;
 }
+
+-- enough words are shared out
+pub shared_for : (n w : ℕ) (o : Maybe Work) → SharedOut w o → (TooFew w n → ⊥) → SharedFor n w o
+shared_for n w None few enough = absurd (enough (omega arith))
+shared_for n w (Some k) shared enough = (enough, shared)
 
 -- what the work words give
 module _ {s h : List ℕ} {w : ℕ} {k : Work} (fresh : Fresh w k) (enough : TooFew w (length s + length h) → ⊥) where

@@ -13,13 +13,14 @@ use Rattle.engine.specs.declared.types.NoRoom.{NoRoom}
 use Rattle.engine.specs.declared.work.Work.{Work}
 use Rattle.engine.specs.Running.{Honest}
 use Rattle.engine.specs.Meeting.{Ample}
+use Rattle.engine.specs.Working.{SharedOut}
 use Rattle.books.specs.Rows.{Reads, Of}
 use Rattle.ways.specs.Showing.{Shown}
 use Rattle.equal.specs.declared.types.Judged.{Judged}
 use Rattle.equal.specs.declared.types.Judged.TheVariants as judged
 use Rattle.equal.specs.declared.types.Told.{Told as Answer}
 use Rattle.equal.specs.declared.types.Told.TheVariants as answer
-use Rattle.equal.specs.Promises.{JudgedSays, Starting}
+use Rattle.equal.specs.Promises.{JudgedSays, Starting, TooFew}
 use Rattle.equal.specs.Serving.{StillServes}
 
 -- slots, cells and words enough for two terms of n different parts at once, and the book has no more words
@@ -121,3 +122,8 @@ RowsSay b n x y answer.Full = (t u : Term) × (Of (told b).parts x t ⊎ Of (tol
     × (n < different (u ∷ []))
 RowsSay b n x y answer.Unjudged = ⊥
 RowsSay b n x y answer.Small = ⊥
+
+-- w work words shared out, enough for n words of rows; or they are too few
+abbrev pub SharedFor : ℕ → ℕ → Maybe Work → Type 0
+SharedFor n w None = TooFew w n
+SharedFor n w (Some k) = (TooFew w n → ⊥) × SharedOut w (Some k)

@@ -1,4 +1,5 @@
 // Comparing many terms by a book that was judged once.
+// Stays in the contracts how ample the work words are: it is said for each number that suits, and not for one.
 ghost use Rattle.std.specs.Prelude.{◌≡◌, ℕ, ◌≤◌, length};
 ghost use Rattle.engine.specs.Meeting.{Ample};
 ghost use Rattle.equal.specs.declared.types.Judged.TheVariants.{Settles};

@@ -1,4 +1,6 @@
 // Whether the sides of each equation meet.
+// Stays in the contracts that there are no roots: a comparison stacks the two it compares, and takes them off again.
+// Stays in the contracts how ample the work words are: it is said for each number that suits, and not for one.
 ghost use Rattle.std.specs.Prelude.{◌≡◌, ℕ, ◌<◌, length};
 ghost use Rattle.rewriting.specs.Books.{OneEnd};
 ghost use Rattle.books.specs.Books.{equation_in, told};

@@ -16,6 +16,7 @@ pub fn judge_in(book: &[u32], ways: &[u32], work: &mut Work) -> Judged
     requires room { (n : ℕ) × RoomFor book.now ways.now n work.old }
     ensures { (n : ℕ) → RoomFor book.now ways.now n work.old → JudgedIn book.now ways.now n work.old work.new result }
 {
+    // Stays two refusals handed on, here and below: they are answers, and one more function to `Result` would be matched here again.
     let Some(book) = Book::read(book) else {
         return Judged::NoBook;
     };

@@ -18,17 +18,14 @@ use judging::judge_in;
 pub use settled_book::Settled;
 pub use terms::not_settled;
 pub use types::{Judged, Told};
-pub use words::{too_few, too_few_with_terms};
+pub use words::{share_for, too_few_with_terms};
 
 // Whether a book settles its equations, by its words and those of its ways; or the first thing that fails.
 // Stays slices side by side, in both calls: callers lend each by itself.
 pub fn judge(book: &[u32], ways: &[u32], work: &mut [u32]) -> Judged
     ensures { JudgedPost book.now ways.now (length work.old) result }
 {
-    if too_few(work.len(), book.len(), ways.len()) {
-        return Judged::Few;
-    }
-    let Some(mut work) = share_out(work) else {
+    let Some(mut work) = share_for(work, book.len(), ways.len()) else {
         return Judged::Few;
     };
     judge_in(book, ways, &mut work)
@@ -39,6 +36,7 @@ pub fn tell(book: &[u32], ways: &[u32], one: &[u32], other: &[u32], work: &mut [
     ensures { ToldPost book.now ways.now one.now other.now
         (length work.old) result }
 {
+    // Stays two answers side by side: `share_for` takes the lengths of two rows, and here are four.
     if too_few_with_terms(work.len(), book.len(), ways.len(), one.len(), other.len()) {
         return Told::Small;
     }

@@ -1,4 +1,6 @@
 // Judging a book whose rules go down.
+// Stays in the contracts that there are no roots: a comparison stacks the two it compares, and takes them off again.
+// Stays in the contracts how ample the work words are: it is said for each number that suits, and not for one.
 ghost use Rattle.std.specs.Prelude.{◌≡◌, ℕ, length};
 ghost use Rattle.engine.specs.Reducers.{LeftIdle};
 ghost use Rattle.equal.specs.Judging.{AmpleWith, RulesSay, by_ways, or_room};

@@ -1,5 +1,7 @@
 // Comparing terms by a book that settles its equations.
 // Stays two slices side by side: they are what is compared.
+// Stays in the contracts that there are no roots: a comparison stacks the two it compares, and takes them off again.
+// Stays in the contracts how ample the work words are: it is said for each number that suits, and not for one.
 ghost use Rattle.std.specs.Prelude.{◌≡◌, ℕ, ◌≤◌, length};
 ghost use Rattle.rewriting.specs.Theorems.{IsSettled};
 ghost use Rattle.books.specs.Books.{told};

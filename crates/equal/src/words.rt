@@ -1,9 +1,10 @@
 // How many work words are wanted.
-ghost use Rattle.std.specs.Prelude.{◌+◌};
+ghost use Rattle.std.specs.Prelude.{◌+◌, length};
 ghost use Rattle.rewriting.specs.Answers.{Tells};
 ghost use Rattle.equal.specs.Promises.{TooFew};
+ghost use Rattle.equal.specs.Judging.{SharedFor};
 
-use engine::work::LEAST;
+use engine::work::{LEAST, Work, share_out};
 
 // Whether there are fewer work words than the least, and 64 for each word of two rows of these lengths together. No sum overflows.
 pub fn too_few(work: usize, one: usize, other: usize) -> bool
@@ -19,4 +20,14 @@ pub fn too_few_with_terms(work: usize, book: usize, ways: usize, one: usize, oth
 {
     let terms = one.saturating_add(other);
     too_few(work, book, ways.saturating_add(terms))
+}
+
+// The work words shared out, if there are enough for two rows of these lengths.
+pub fn share_for<'a>(work: &'a mut [u32], one: usize, other: usize) -> Option<Work<'a>>
+    ensures { SharedFor (one + other) (length work.old) result }
+{
+    if too_few(work.len(), one, other) {
+        return None;
+    }
+    share_out(work)
 }

@@ -1,6 +1,6 @@
 -- Where two rules meet: by the words of their left sides.
 use Rattle.std.proofs.Common.{◌≡◌, ℕ, ◌+◌, ◌*◌, ◌<◌, ◌≤◌, List, ◌++◌, length, get_or, drop, Some, None, sym, refl, ap, ◌∙◌, subst}
-use Rattle.std.proofs.Common.{append-nil, arith}
+use Rattle.std.proofs.Common.{append-nil, arith, length-drop}
 use Rattle.rewriting.specs.Terms.{Term, letter, sign, Terms, none1, and1, put, puts, size, Over, SmallLetter}
 use Rattle.rewriting.specs.Rules.{Part, renamed}
 use Rattle.rewriting.specs.Order.{rank, AllDown}
@@ -16,7 +16,7 @@ use Rattle.books.proofs.Glueing.{row_length}
 use Rattle.books.proofs.Unique.{row_once}
 use Rattle.engine.proofs.Trying.{greater_sign}
 use Rattle.overlaps.specs.Positions.{index, At, SameSign, OverlapIs, OverlapOrNone}
-use Rattle.overlaps.proofs.Positions.{at_index, behind, words_from, word_from, part_length}
+use Rattle.overlaps.proofs.Positions.{at_index, behind, words_from, part_length}
 
 first_sign : (v : Term) (zs : List ℕ) → (get_or (row v ++ zs) 0 0 ≡ 0 → ⊥) → (f : ℕ) × (vs : Terms) × (v ≡ sign f vs)
 first_sign (letter x) zs n = absurd (n refl)
@@ -30,20 +30,23 @@ side_short b i low e =
 module _ (b : Book) (down : AllDown (rank (told b).ranks) (told b).rules) (i j k : ℕ)
     (low : (i < length (told b).rules) × (j < length (told b).rules)) {ws vs : List ℕ}
     (ew : ws ≡ row (rule_in b i).left) (ev : vs ≡ row (rule_in b j).left) where
+  from_here : {v : Term} (place : Part v (rule_in b i).left) → index place ≡ k → row v ++ behind place ≡ drop (2 * k) ws
+  from_here place e = sym (words_from place ws ew) ∙ ap (λ (n : ℕ). drop (2 * n) ws) e
+
   -- another sign
-  pub other_sign : (SameSign ws (2 * k) vs → ⊥) → OverlapOrNone b i j k None
+  pub other_sign : (SameSign (drop (2 * k) ws) vs → ⊥) → OverlapOrNone b i j k None
   other_sign n f us place e s d =
       let (g, ts, h) = greater_sign (down j (rule_in b j) (is_rule b (sound_book_in b) j low.1)) in
       let x : sign f (puts s us) ≡ sign g (puts s (puts (λ x. letter (x + 16)) ts)) = d ∙ ap (λ (t : Term). put s (renamed t)) h in
       let z : f ≡ g = cc in
-      let o : 2 * k + 0 ≡ 2 * k = omega arith in
+      let words = from_here place e in
       let l = part_length place ws ew in
       n (
         f,
         (
-          omega (arith, l, e),
-          ap (λ (m : ℕ). get_or ws m 0) (sym o) ∙ word_from place ws ew k 0 e,
-          word_from place ws ew k 1 e,
+          omega (arith, l, e, length-drop (2 * k) ws),
+          ap (λ (w : List ℕ). get_or w 0 0) (sym words),
+          ap (λ (w : List ℕ). get_or w 1 0) (sym words),
         ),
         (
           omega (arith, ap length ev, row_length (rule_in b j).left, size_some (rule_in b j).left),
@@ -57,23 +60,19 @@ module _ (b : Book) (down : AllDown (rank (told b).ranks) (told b).rules) (i j k
     over_here {v} place = subst (λ (qs : List ℕ). Over SmallLetter qs v) (sym ep)
         (over_part (told b).parts SmallLetter place (rule_sides b (sound_book_in b) i low.0).left)
 
-    from_here : {v : Term} (place : Part v (rule_in b i).left) → index place ≡ k → row v ++ behind place ≡ drop (2 * k) ws
-    from_here place e = sym (words_from place ws ew) ∙ ap (λ (n : ℕ). drop (2 * n) ws) e
-
     pub no_end : TermEnd Small ps ws (2 * k) None → OverlapOrNone b i j k None
     no_end h f us place e s d = h (sign f us) (behind place) (over_here place) (from_here place e)
 
-    pub overlap_is : (z : ℕ) → k < size (rule_in b i).left → SameSign ws (2 * k) vs → TermEnd Small ps ws (2 * k) (Some z) →
+    pub overlap_is : (z : ℕ) → k < size (rule_in b i).left → SameSign (drop (2 * k) ws) vs → TermEnd Small ps ws (2 * k) (Some z) →
         OverlapIs b i j k (record { outer = i; inner = j; from = 2 * k; to = z })
     overlap_is z l g (t, o, w) =
         let (v, place, e) = at_index (rule_in b i).left k l in
-        let d : 2 * k + 0 ≡ 2 * k = omega arith in
         record {
           outer = refl;
           inner = refl;
           stands = record { outer = low.0; inner = low.1; part = v; place = place; at = each v place e };
           is_sign = first_sign v (behind place)
-              (λ y. absurd (omega (arith, g.1.1, ap (λ (m : ℕ). get_or ws m 0) (sym d) ∙ (word_from place ws ew k 0 e ∙ y))));
+              (λ y. absurd (omega (arith, g.1.1, ap (λ (w : List ℕ). get_or w 0 0) (sym (from_here place e)) ∙ y)));
           each = each;
         }
       where

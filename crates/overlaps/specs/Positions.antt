@@ -22,9 +22,9 @@ pub record At {v t : Term} (place : Part v t) (a z : ℕ) : Type 0 where
   pub from : a ≡ 2 * index place
   pub to : z ≡ a + 2 * size v
 
--- a sign stands at a place, and is the first one of the other words
-abbrev pub SameSign : List ℕ → ℕ → List ℕ → Type 0
-SameSign ws a vs = (f : ℕ) × SymbolAt ws a (Some (Sign f)) × SymbolAt vs 0 (Some (Sign f))
+-- both words begin with the same sign
+abbrev pub SameSign : List ℕ → List ℕ → Type 0
+SameSign ws vs = (f : ℕ) × SymbolAt ws 0 (Some (Sign f)) × SymbolAt vs 0 (Some (Sign f))
 
 -- two rules, and a part of the first's left side
 pub record Stands (b : Book) (o : Overlap) : Type 0 where

@@ -1,4 +1,6 @@
 // Whether a book whose rules go down has one end (is confluent): its critical pairs, one after the other.
+// Stays in the contracts that there are no roots: a comparison stacks the two it compares, and takes them off again.
+// Stays in the contracts how ample the work words are: it is said for each number that suits, and not for one.
 ghost use Rattle.std.specs.Prelude.{◌≡◌, ℕ, ◌<◌, length};
 ghost use Rattle.rewriting.specs.Terms.{size};
 ghost use Rattle.books.specs.Books.{rule_in, told};

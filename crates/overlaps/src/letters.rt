@@ -13,7 +13,7 @@ pub fn all_letters(store: &mut Store) -> Bindings
     ensures { LettersMade 32 store.old store.new result }
 {
     let mut letters = Bindings::new();
-    // Stays a loop over numbers: each is a letter, and the store changes with each.
+    // Stays a loop over numbers: tried `array::from_fn`: nothing is known after it of the store that its closure changed.
     for x in 0..32u32 {
         letters.at[x as usize] = Some(store.share_letter(x));
     }

@@ -9,14 +9,14 @@ use crate::types::{HOLE, Overlap, Row};
 use books::words::{Letters, Symbol, symbol_at, term_end};
 use order::Terminating;
 
-// Whether a sign stands at a place of a row, and is the first one of another row.
-fn same_sign(row: &[u32], at: usize, other: &[u32]) -> bool
-    ensures { Tells result (SameSign row.now at other.now) }
+// Whether two rows begin with the same sign.
+fn same_sign(one: &[u32], other: &[u32]) -> bool
+    ensures { Tells result (SameSign one.now other.now) }
 {
-    let Some(Symbol::Sign(f)) = symbol_at(row, at) else {
-        return false;
-    };
-    symbol_at(other, 0) == Some(Symbol::Sign(f))
+    match (symbol_at(one, 0), symbol_at(other, 0)) {
+        (Some(Symbol::Sign(f)), Some(Symbol::Sign(g))) => f == g,
+        _ => false,
+    }
 }
 
 // The overlap at symbol k of rule i's left side, if the sign of rule j's left side stands there.
@@ -28,7 +28,7 @@ pub fn overlap_at(rules: &Terminating, i: usize, j: usize, k: usize) -> Option<O
     let book = &rules.book;
     let left = book.rule(i).left;
     let from = 2 * k;
-    if !same_sign(left, from, book.rule(j).left) {
+    if !same_sign(&left[from..], book.rule(j).left) {
         return None;
     }
     let to = term_end(Letters::Small, book.parts(), left, from)?;

@@ -1,5 +1,6 @@
 // What is said of a pair, by a book that was judged before.
 // Stays in the contracts what judging says of the given rows: it relates an answer to rows, which are lent apart.
+// Stays in the contracts how ample the work words are: for as many parts as `given` allows, which `Work` does not know.
 ghost use Rattle.std.specs.Prelude.{◌≡◌, ◌+◌, length, ◌≢◌};
 ghost use Rattle.rewriting.specs.Answers.{Tells};
 ghost use Rattle.engine.specs.Meeting.{Ample, most_parts};

@@ -7,12 +7,13 @@ ghost use Rattle.telling.specs.Session.{Ready};
 use crate::answer::{Given, refused_answer, settled_answer};
 use crate::pairs::{Asking, Pairs};
 use arguments::Stopped;
-use engine::work::{Work, share_out};
+use engine::work::Work;
 use equal::judging::judge_in;
-use equal::{Judged, Settled, Told, too_few};
+use equal::{Judged, Settled, Told, share_for};
 use std::io::Read;
 
 // Answers each pair of a text.
+// Stays `asking` and `reader` side by side, here and below: `Pairs` joins them, and its memory is taken only after judging.
 fn tell_each<R: Read, F: FnMut(&[u32], &[u32]) -> Told>(
     asking: Asking<'_>,
     reader: &mut R,
@@ -74,6 +75,7 @@ fn tell_settled<R: Read>(
 }
 
 // Judges the book, and answers all pairs that the reader gives.
+// Stays book and ways beside the work words: `Given` has the number of those words, and is made of them here.
 pub fn tell_pairs<'a, R: Read>(
     asking: Asking<'_>,
     reader: &mut R,
@@ -86,10 +88,7 @@ pub fn tell_pairs<'a, R: Read>(
         ways,
         work: work.len(),
     };
-    if too_few(work.len(), book.len(), ways.len()) {
-        return tell_refused(asking, reader, given, Judged::Few);
-    }
-    let Some(mut work) = share_out(work) else {
+    let Some(mut work) = share_for(work, book.len(), ways.len()) else {
         return tell_refused(asking, reader, given, Judged::Few);
     };
     match judge_in(book, ways, &mut work) {
