@@ -18,7 +18,7 @@ use judging::judge_in;
 pub use settled_book::Settled;
 pub use terms::not_settled;
 pub use types::{Judged, Told};
-pub use words::{share_for, too_few_with_terms};
+pub use words::{share_for, too_few, too_few_with_terms};
 
 // Whether a book settles its equations, by its words and those of its ways; or the first thing that fails.
 // Stays slices side by side, in both calls: callers lend each by itself.
