@@ -1,8 +1,9 @@
 #!/bin/sh
 # Checks from outside: tests/outside.sh JUDGE TELL [COUNT]
 # Makes COUNT books (300 if not said), and takes the example books besides; asks the programs JUDGE and TELL and a second judge that shares
-# nothing with them, and compares. The second judge tries everything within nine letters and signs (tests/brute); where that is too little to tell, it says
-# which answers are left. The status is 1 if any two answers disagree. Needs rustc.
+# nothing with them, and compares. The second judge tries everything within nine letters and signs (tests/brute), or, of books of many
+# signs, as many terms as it can; where that is too little to tell, it says which answers are left. The status is 1 if any two answers
+# disagree. Needs rustc.
 set -eu
 [ $# -ge 2 ] || {
     echo "usage: tests/outside.sh JUDGE TELL [COUNT]" >&2
