@@ -21,7 +21,7 @@ fi
 
 judge=crates/judge/out/judge
 tell=crates/tell/out/tell
-tests/books.sh "$judge" || status=1
+tests/books.sh "$judge" "$tell" || status=1
 if [ -x tests/outside.sh ] && command -v rustc >/dev/null; then
     tests/outside.sh "$judge" "$tell" || status=1
 else

@@ -136,7 +136,7 @@ PEANO = "z/0 s/1 thirty/0 even/1 plus/2 times/2"
 def sums():
     # each number is added to the sum of those before it; all are different, so that no sum is one that was had before
     book = Book(PEANO, PLUS + EVEN)
-    for k in (150, 225, 340):
+    for k in (240, 340, 480):
         term = number(k)
         for n in reversed(range(1, k)):
             term = ("plus", term, number(n))
@@ -145,28 +145,28 @@ def sums():
 
 def products():
     book = Book(PEANO, [THIRTY] + PLUS + TIMES + EVEN)
-    for n in (15, 45, 135):
+    for n in (30, 60, 120):
         term = ("times", "thirty", ("times", "thirty", ("times", "thirty", number(n))))
         yield f"30*30*30*{n}", book, ("even", term)
 
 
 def factorial():
     book = Book(PEANO + " fact/1", PLUS + TIMES + EVEN + ["fact(z) -> s(z)", "fact(s(X)) -> times(s(X), fact(X))"])
-    for n in (1, 3, 10):
+    for n in (3, 10, 30):
         yield f"{n} * 9!", book, ("even", ("times", number(n), ("fact", number(9))))
 
 
 def fibonacci():
     rules = ["fib(z) -> z", "fib(s(z)) -> s(z)", "fib(s(s(X))) -> plus(fib(s(X)), fib(X))"]
     book = Book(PEANO + " fib/1", PLUS + EVEN + rules)
-    for n in (23, 26, 29):
+    for n in (26, 29, 32):
         yield f"fib {n}", book, ("even", ("fib", number(n)))
 
 
 def ackermann():
     rules = ["ack(z, Y) -> s(Y)", "ack(s(X), z) -> ack(X, s(z))", "ack(s(X), s(Y)) -> ack(X, ack(s(X), Y))"]
     book = Book("z/0 s/1 even/1 ack/2", EVEN + rules)
-    for n in (7, 8, 9):
+    for n in (8, 9, 10):
         yield f"ack 3 {n}", book, ("even", ("ack", number(3), number(n)))
 
 
@@ -175,7 +175,7 @@ def reverse():
     rules += ["rev(nil) -> nil", "rev(cons(H, X)) -> app(rev(X), cons(H, nil))"]
     rules += ["upto(z) -> nil", "upto(s(X)) -> cons(s(X), upto(X))", "head(cons(H, X)) -> H"]
     book = Book(PEANO + " nil/0 cons/2 upto/1 app/2 rev/1 head/1", [THIRTY] + PLUS + TIMES + rules)
-    for n in (40, 80, 160):
+    for n in (80, 160, 240):
         yield f"{30 * n} items", book, ("head", ("rev", ("upto", ("times", "thirty", number(n)))))
 
 
@@ -196,7 +196,7 @@ def group():
 
 def strings():
     book = Book("c/0 g/1 f/1", ["f(f(X)) -> g(X)", "f(g(X)) -> g(f(X))"])
-    for n in (2000, 4000, 8000):
+    for n in (4000, 8000, 16000):
         chance = random.Random(n)
         yield f"{n} signs", book, tower([chance.choice("fg") for _ in range(n)], "c")
 
@@ -205,7 +205,7 @@ def doubling():
     rules = ["tree(z) -> leaf", "tree(s(X)) -> node(tree(X), tree(X))"]
     rules += ["leaves(leaf) -> s(z)", "leaves(node(X, Y)) -> plus(leaves(X), leaves(Y))"]
     book = Book(PEANO + " leaf/0 node/2 tree/1 leaves/1", PLUS + EVEN + rules)
-    for n in (16, 18, 20):
+    for n in (18, 20, 22):
         yield f"2^{n} leaves", book, ("even", ("leaves", ("tree", number(n))))
 
 
@@ -213,7 +213,7 @@ def sorting():
     letters = "abcdefgh"
     rules = [f"{y}({x}(X)) -> {x}({y}(X))" for j, y in enumerate(letters) for x in letters[:j]]
     book = Book("o/0 " + " ".join(f"{x}/1" for x in letters), rules)
-    for n in (1500, 3000, 6000):
+    for n in (3000, 6000, 12000):
         chance = random.Random(n)
         yield f"{n} letters", book, tower([chance.choice(letters) for _ in range(n)], "o")
 
@@ -228,7 +228,7 @@ def insertion():
             else:
                 rules.append(f"insert({y}, cons({x}, X)) -> cons({y}, cons({x}, X))")
     book = Book(" ".join(f"{x}/0" for x in items) + " nil/0 cons/2 insert/2 sort/1", rules)
-    for n in (1000, 2000, 4000):
+    for n in (2000, 4000, 8000):
         chance = random.Random(n)
         yield f"{n} items", book, ("sort", right_list([chance.choice(items) for _ in range(n)], "cons", "nil"))
 

@@ -10,19 +10,20 @@ import sys
 
 from cases import WORKLOADS, maude_text
 
-RUNS = 3
+# For the smallest size, the next and the largest: the shorter a run, the more it is disturbed.
+RUNS = (15, 7, 3)
 WORK_WORDS = 1 << 28
 
 
-def ours(call, path, book, term):
+def ours(call, path, runs, book, term):
     """The median of the seconds of our calls, the code, and the words of the result."""
     with open(path, "wb") as file:
         for words in (book.row(), book.term_row(term)):
             file.write(struct.pack(f"<I{len(words)}I", len(words), *words))
-    out = subprocess.run([call, path, str(RUNS), str(WORK_WORDS)], capture_output=True, text=True, check=True).stdout
+    out = subprocess.run([call, path, str(runs), str(WORK_WORDS)], capture_output=True, text=True, check=True).stdout
     lines = out.splitlines()
-    seconds = statistics.median(float(line) for line in lines[:RUNS])
-    return seconds, int(lines[RUNS].split()[1]), [int(word) for word in lines[RUNS + 1].split()[1:]]
+    seconds = statistics.median(float(line) for line in lines[:runs])
+    return seconds, int(lines[runs].split()[1]), [int(word) for word in lines[runs + 1].split()[1:]]
 
 
 def deep_stack():
@@ -30,16 +31,16 @@ def deep_stack():
     resource.setrlimit(resource.RLIMIT_STACK, (resource.RLIM_INFINITY, resource.RLIM_INFINITY))
 
 
-def maude(path, book, term):
+def maude(path, runs, book, term):
     """The median of the seconds that Maude reports, the number of its rewrites, and its result; none if it does not answer."""
     text = maude_text(term)
     with open(path, "w") as file:
-        file.write("set show timing on .\n" + book.maude() + "\n" + f"red {text} .\n" * RUNS + "q\n")
+        file.write("set show timing on .\n" + book.maude() + "\n" + f"red {text} .\n" * runs + "q\n")
     command = ["maude", "-no-banner", "-no-wrap", path]
     out = subprocess.run(command, capture_output=True, text=True, preexec_fn=deep_stack).stdout
     found = re.findall(r"rewrites: (\d+) in (\d+)ms cpu", out)
     result = re.findall(r"^result T: (.*)$", out, re.M)
-    if len(found) != RUNS or not result:
+    if len(found) != runs or not result:
         return None
     # It counts milliseconds.
     seconds = max(statistics.median(int(ms) for _, ms in found) / 1000, 0.001)
@@ -49,12 +50,12 @@ def maude(path, book, term):
 def measure(call, folder, name, number, size, book, term, with_maude):
     """Prints a line of the table; gives the ratio, if there is one."""
     path = os.path.join(folder, f"{name}{number}")
-    seconds, code, words = ours(call, path + ".rows", book, term)
+    seconds, code, words = ours(call, path + ".rows", RUNS[number], book, term)
     line = f"{name:11} {size:>14} {seconds:9.4f}"
     if code != 0:
         print(f"{line}  no normal form: code {code}")
         return None
-    peer = maude(path + ".maude", book, term) if with_maude else None
+    peer = maude(path + ".maude", RUNS[number], book, term) if with_maude else None
     if peer is None:
         print(line + ("  Maude does not answer" if with_maude else ""), flush=True)
         return None

@@ -1,8 +1,9 @@
 #!/bin/sh
-# Asks JUDGE of every example book: tests/books.sh JUDGE. The status is 1 if any answer is another than the one in books/answers.txt.
+# Asks JUDGE of every example book, and TELL of the pairs beside it: tests/books.sh JUDGE TELL. The status is 1 if any answer is another
+# than the one in books/answers.txt, or than the comment behind the pair.
 set -eu
-[ $# -eq 1 ] || {
-    echo "usage: tests/books.sh JUDGE" >&2
+[ $# -eq 2 ] || {
+    echo "usage: tests/books.sh JUDGE TELL" >&2
     exit 1
 }
 status=0
@@ -18,5 +19,15 @@ for book in "$books"/*.book; do
         status=1
     }
 done
-echo "$count example books judged"
+pairs=0
+for file in "$books"/*.pairs; do
+    wanted=$(sed -n 's/^[^#].*# *//p' "$file")
+    found=$("$2" "${file%.pairs}.book" "$file" 2>/dev/null) || true
+    pairs=$((pairs + $(echo "$wanted" | wc -l)))
+    [ "$found" = "$wanted" ] || {
+        echo "DISAGREE $file: expected" $wanted", answered" $found
+        status=1
+    }
+done
+echo "$count example books judged, $pairs pairs told"
 exit $status

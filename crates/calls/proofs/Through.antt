@@ -159,8 +159,8 @@ module _ (k : Book) (ts : List ℕ) (w : Work) (b : Store) (r : Roots) where
 -- a row that can't be written
 pub refused : (b : Told) (ts vs ws : List ℕ) (q : Roots) (v : Term) (n : ℕ) → q.top ≡ 1 → 6 * n + 256 ≤ length q.cells.now →
     NormalForm b ts v → (x : Short) → WrittenOrShort q v vs ws (Err x) → NormalAnswers b ts n (length vs) ws (Err (refusal_of x))
-refused b ts vs ws q v n one long f NoWord h = (v, f, h)
-refused b ts vs ws q v n one long f NoCell h =
+refused b ts vs ws q v n one long f NoWord (_, h) = (v, f, h)
+refused b ts vs ws q v n one long f NoCell (_, h) =
     record { term = f.term; of = f.of; large = v; steps = f.steps; more = at (dec_lt n (size v)) }
   where
     at : Dec (n < size v) → n < size v

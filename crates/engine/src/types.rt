@@ -31,9 +31,9 @@ pub struct Frame {
 // Stays words with a depth: the words are lent, and no heap is used here.
 #[derive(Drop)]
 pub struct Frames<'a> {
-    pub words: &'a mut [u32],
-    pub depth: usize,
-    pub fresh: usize,
+    pub(crate) words: &'a mut [u32],
+    pub(crate) depth: usize,
+    pub(crate) fresh: usize,
     pub ghost fits: { 4 * depth ≤ length words.now },
     pub ghost within: { fresh ≤ depth },
 }

@@ -1,45 +1,47 @@
--- Collecting: marked, with the buckets emptied, slid down, and the notes cleared.
-use Rattle.std.proofs.Common.{◌≡◌, ℕ, ◌+◌, ◌-◌, ◌<◌, List, length, sym, ap, ◌∙◌, subst, arith}
+-- Collecting: unmarked, with the buckets emptied, marked, slid down, and the notes cleared.
+use Rattle.std.proofs.Common.{◌≡◌, ℕ, ◌-◌, ◌<◌, List, length, sym, ap, ◌∙◌, subst, arith}
 use Rattle.rewriting.specs.Terms.{Term}
 use Rattle.rewriting.specs.Rules.{Part}
 use Rattle.rewriting.specs.Different.{listed}
 use Rattle.rewriting.proofs.Different.{different_most, part_of_listed}
 use Rattle.store.specs.Cells.{cell, Cleared}
-use Rattle.store.specs.Slots.{tag_of, kind_of, flag_of, kind_at, part_at, note_at, term_of, Shared}
+use Rattle.store.specs.Slots.{flag_of, last_at, note_at, term_of, Shared, Alike}
 use Rattle.store.specs.Chains.{Chains}
-use Rattle.store.specs.Marks.{Closed, RootsMarked}
+use Rattle.store.specs.Marks.{Unmarked, RootsMarked}
 use Rattle.store.specs.Slides.{Moved, Slid, Collected}
 use Rattle.store.proofs.Decoding.{alike, term_alike, shared_alike}
 use Rattle.store.proofs.Chaining.{chains_kept}
 
--- marked in us, with the buckets emptied in ws
-module _ (vs us ws : List ℕ) (c e : ℕ) (q : ℕ → ℕ) (t : ℕ) (w : Shared vs c) (m : RootsMarked vs c q t us)
-    (long-w : length ws ≡ length vs) (z : Cleared us e 6 ws) where
-  nodes : (j k : ℕ) → j < c → k < 5 → cell ws j k ≡ cell vs j k
-  nodes j k l h = z.rest j k (omega arith) (λ a n. omega arith) ∙ m.nodes j k (omega arith)
+-- unmarked in us, with the buckets emptied
+module _ (vs us : List ℕ) (c e : ℕ) (w : Shared vs c) (long_u : length us ≡ length vs) (z : Unmarked vs e us) where
+  like_u : Alike vs us c
+  like_u = alike vs us c (λ j k l h. z.rest j k (omega arith) (λ b. omega arith))
 
-  mark_is : (j : ℕ) → note_at ws j ≡ note_at us j
-  mark_is j = z.rest j 7 (omega arith) (λ a n. omega arith)
+  kept_u : (i : ℕ) → i < c → term_of us i ≡ term_of vs i
+  kept_u = term_alike vs us c w.shape like_u
+
+  pub unmarked_shared : Shared us c
+  unmarked_shared = shared_alike vs us c w long_u like_u
+
+-- marked in ws
+module _ (vs us ws : List ℕ) (c e : ℕ) (q : ℕ → ℕ) (t : ℕ) (w : Shared vs c) (long_u : length us ≡ length vs) (z : Unmarked vs e us)
+    (long-w : length ws ≡ length vs) (m : RootsMarked us c q t ws) where
+  nodes : (j k : ℕ) → j < c → k < 5 → cell ws j k ≡ cell vs j k
+  nodes j k l h = m.nodes j k (omega arith) ∙ z.rest j k (omega arith) (λ b. omega arith)
 
   kept : (i : ℕ) → i < c → term_of ws i ≡ term_of vs i
   kept = term_alike vs ws c w.shape (alike vs ws c nodes)
 
-  ready_shared : Shared ws c
-  ready_shared = shared_alike vs ws c w long-w (alike vs ws c nodes)
+  pub ready : Shared ws c
+  ready = shared_alike vs ws c w long-w (alike vs ws c nodes)
 
-  ready_closed : Closed ws c
-  ready_closed i k l h b y = let u = ready_shared.shape.tags i l in
-      let tag : tag_of (kind_at ws i) ≡ tag_of (kind_at us i) = ap tag_of (ap kind_of (z.rest i 0 (omega arith) (λ a n. omega arith))) in
-      let part : part_at ws i k ≡ part_at us i k = z.rest i (k + 1) (omega arith) (λ a n. omega arith) in
-      m.closed i k l (λ x. h (mark_is i ∙ x)) (omega arith) (ap (λ (x : ℕ). note_at us x) (sym part) ∙ sym (mark_is _) ∙ y)
-
-  pub ready : Shared ws c × Closed ws c
-  ready = (ready_shared, ready_closed)
+  pub emptied : (j : ℕ) → j < e → last_at ws j ≡ 0
+  emptied j l = m.nodes j 6 (omega arith) ∙ z.lasts j l
 
   -- slid down in xs
   module _ (mask : ℕ) (xs : List ℕ) (n : ℕ) (low : (k : ℕ) → k < t → q k < c) (s : Slid ws c xs n) (ch : Chains mask xs n) where
     pub moved : (k : ℕ) → k < t → Moved ws (q k) xs n (note_at xs (q k))
-    moved k l = s.to _ (low k l) (λ y. m.roots k l (sym (mark_is _) ∙ y))
+    moved k l = s.to _ (low k l) (m.roots k l)
 
     -- the notes cleared in ys
     module _ (ys : List ℕ) (r : ℕ → ℕ) (long-y : length ys ≡ length xs) (zy : Cleared xs n 7 ys)
@@ -59,8 +61,10 @@ module _ (vs us ws : List ℕ) (c e : ℕ) (q : ℕ → ℕ) (t : ℕ) (w : Shar
       wanted_y : (i : ℕ) → i < n → (k : ℕ) × (k < t) × Part (term_of ys i) (term_of vs (q k))
       wanted_y i l =
           let f = s.from i l in
-          let h = m.only f.of f.old (λ y. f.marked (mark_is _ ∙ y)) in
-          (h.0, h.1, subst (λ (x : Term). Part x (term_of vs (q h.0))) (sym (kept_y i l ∙ f.term ∙ kept f.of f.old)) h.2)
+          let h = m.only f.of f.old f.marked in
+          let old = kept_u vs us c e w long_u z in
+          (h.0, h.1, subst (λ (x : Term). Part x (term_of vs (q h.0))) (sym (kept_y i l ∙ f.term ∙ kept f.of f.old ∙ sym (old f.of f.old)))
+              (subst (λ (x : Term). Part (term_of us f.of) x) (old (q h.0) (low h.0 h.1)) h.2))
 
       kept_all : Collected vs c q t ys n r
       kept_all = record {

@@ -17,7 +17,7 @@ use Rattle.store.specs.Roots.{HasRoots, root_at}
 use Rattle.store.specs.Stacks.{root_in, StackedOn, CutTo}
 use Rattle.store.specs.Stores.{term_in, part_in, parts_in, held, terms_down, Inside}
 use Rattle.store.specs.Transfers.{inner, tag_word, number_word, PartsPushed, SymbolWritten, SymbolOrShort, RootsBelow}
-use Rattle.store.specs.Transfers.{WrittenOrShort}
+use Rattle.store.specs.Transfers.{Begun, WrittenOrShort}
 use Rattle.store.proofs.Cases.{le_or_lt, last_or_below}
 use Rattle.store.proofs.Forests.{down_same, down_count}
 
@@ -217,10 +217,25 @@ module _ (a : Store) (q : Roots) (p f n : ℕ) (u : Roots) (e : held a q (q.top 
             ∙ sym (ap inner e);
       }
 
+-- what is written by then is a beginning of the row
+begun : (a : Store) (base : ℕ) (q : Roots) (t : Term) (vs : List ℕ) (at : ℕ) (r : Roots) (ws : List ℕ) → Emitted a base q t vs at r ws →
+    (xs : List ℕ) → xs ≡ ws → Begun t vs xs
+begun a base q t vs at r ws e xs same = record {
+  words = at;
+  unwritten = rows (terms_down a r base (r.top - base));
+  is = ap (λ (ys : List ℕ). take at ys ++ rows (terms_down a r base (r.top - base))) same ∙ e.is;
+  tail = λ j l. ap (λ (ys : List ℕ). get_or ys j 0) same ∙ e.tail j l;
+}
+
+pub not_begun : (t : Term) (vs : List ℕ) → Begun t vs vs
+not_begun t vs = record { words = 0; unwritten = row t; is = refl; tail = λ j l. refl }
+
 -- what is wanting when it stops
 pub emitted_short : (a : Store) (p : Roots) (q : Roots) (t : Term) (vs : List ℕ) (at : ℕ) (r : Roots) (ws : List ℕ) →
     Emitted a p.top q t vs at r ws → p.top < r.top → length q.cells.now ≡ length p.cells.now →
     (s : Roots) (xs : List ℕ) (x : Short) →
     SymbolOrShort a r ws at s xs (Err x) → WrittenOrShort p t vs xs (Err x)
-emitted_short a p q t vs at r ws e l z s xs NoWord h = omega (arith, room_left a p.top q t vs at r ws e l, e.long)
-emitted_short a p q t vs at r ws e l z s xs NoCell h = λ f. h (omega (arith, cells_enough a p.top q t vs at r ws e l, e.below.long))
+emitted_short a p q t vs at r ws e l z s xs NoWord (same, h) =
+    (begun a p.top q t vs at r ws e xs same, omega (arith, room_left a p.top q t vs at r ws e l, e.long))
+emitted_short a p q t vs at r ws e l z s xs NoCell (same, h) =
+    (begun a p.top q t vs at r ws e xs same, λ f. h (omega (arith, cells_enough a p.top q t vs at r ws e l, e.below.long)))

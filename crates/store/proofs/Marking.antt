@@ -3,9 +3,8 @@ use Rattle.std.proofs.Common.{◌≡◌, ℕ, zero, suc, ◌+◌, ◌-◌, ◌<�
 use Rattle.rewriting.specs.Terms.{Term}
 use Rattle.rewriting.specs.Rules.{Part, itself, in_part, Parts, in_this, in_later}
 use Rattle.rewriting.proofs.Different.{part_trans}
-use Rattle.store.specs.Cells.{Cleared}
 use Rattle.store.specs.Slots.{symbol_of, tag_of, kind_of, kind_at, arity_at, part_at, note_at}
-use Rattle.store.specs.Slots.{parts_by, node_by, node, term_of, Shape, SameNodes}
+use Rattle.store.specs.Slots.{parts_by, node_by, node, term_of, Shape}
 use Rattle.store.specs.Marks.{Marked, Reached, from_mark, by_part, MarkedToo, AllMarked, RootsMarked}
 use Rattle.store.proofs.Cases.{eq_or}
 use Rattle.store.proofs.Decoding.{term_is, term_alike, shape_alike, alike}
@@ -74,27 +73,26 @@ reached_part ws c _ w (by_part {i = i} k r t) =
       part = part_trans (slot_part ws c i k w f.lt t) f.part;
     }
 
--- marks cleared in us, roots marked in xs, parts marked in ws
-pub roots_marked : (vs us xs ws : List ℕ) (c : ℕ) (q : ℕ → ℕ) (t : ℕ) → Shape vs c → length xs ≡ length vs →
-    Cleared vs c 7 us → MarkedToo q t us xs → AllMarked 0 c xs ws → RootsMarked vs c q t ws
-roots_marked vs us xs ws c q t w e z a m =
-    let to_x : SameNodes vs xs = λ j k l. a.nodes j k l ∙ z.rest j k (omega arith) (λ b n. omega arith) in
-    let like = alike vs xs c (λ j k l h. to_x j k (omega arith)) in
-    let sx : Shape xs c = shape_alike vs xs c w like e in
-    let kept : (i : ℕ) → i < c → term_of xs i ≡ term_of vs i = term_alike vs xs c w like in
+-- nothing is marked in us, roots are in xs, and parts in ws
+pub roots_marked : (us xs ws : List ℕ) (c : ℕ) (q : ℕ → ℕ) (t : ℕ) → Shape us c → length xs ≡ length us →
+    ((j : ℕ) → j < c → note_at us j ≡ 0) → MarkedToo q t us xs → AllMarked 0 c xs ws → RootsMarked us c q t ws
+roots_marked us xs ws c q t w e z a m =
+    let like = alike us xs c (λ j k l h. a.nodes j k (omega arith)) in
+    let sx : Shape xs c = shape_alike us xs c w like e in
+    let kept : (i : ℕ) → i < c → term_of xs i ≡ term_of us i = term_alike us xs c w like in
     record {
-      nodes = λ j k l. m.nodes j k l ∙ to_x j k l;
+      nodes = λ j k l. m.nodes j k l ∙ a.nodes j k l;
       closed = λ i k l h b. let u = sx.tags i l in
           let tag : tag_of (kind_at ws i) ≡ tag_of (kind_at xs i) = ap tag_of (ap kind_of (m.nodes i 0 (omega arith))) in
           subst (λ (x : ℕ). Marked ws x) (sym (m.nodes i (k + 1) (omega arith))) (m.closed i k (omega arith) l h (omega arith));
       roots = λ k l. m.kept _ (a.these k l);
       only = λ j l h.
           let g = reached_part xs c j sx (m.only j l h) in
-          let r = a.only g.of g.marked (λ y. y (z.is g.of g.old)) in (
+          let r = a.only g.of g.marked (λ y. y (z g.of g.old)) in (
             r.0,
             r.1,
-            subst (λ (x : ℕ). Part (term_of vs j) (term_of vs x)) (sym r.2)
-                (subst (λ (x : Term). Part (term_of vs j) x) (kept g.of g.old)
+            subst (λ (x : ℕ). Part (term_of us j) (term_of us x)) (sym r.2)
+                (subst (λ (x : Term). Part (term_of us j) x) (kept g.of g.old)
                 (subst (λ (x : Term). Part x (term_of xs g.of)) (kept j l) g.part)),
           );
     }

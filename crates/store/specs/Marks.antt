@@ -1,7 +1,8 @@
 -- Marks, in the cells of notes: 0 where a slot is not marked.
 use Rattle.std.specs.Prelude.{◌≡◌, ℕ, ◌<◌, ◌≤◌, List, ◌≢◌}
 use Rattle.rewriting.specs.Rules.{Part}
-use Rattle.store.specs.Slots.{arity_at, part_at, note_at, term_of, SameNodes}
+use Rattle.store.specs.Cells.{cell}
+use Rattle.store.specs.Slots.{arity_at, part_at, last_at, note_at, term_of, SameNodes}
 
 abbrev pub Marked : List ℕ → ℕ → Type 0
 Marked ws i = note_at ws i ≡ 0 → ⊥
@@ -29,6 +30,12 @@ pub record AllMarked (lo c : ℕ) (vs ws : List ℕ) : Type 0 where
   pub kept : (j : ℕ) → Marked vs j → Marked ws j
   pub closed : (i k : ℕ) → lo ≤ i → i < c → Marked ws i → k < arity_at vs i → Marked ws (part_at vs i k)
   pub only : (j : ℕ) → j < c → Marked ws j → Reached vs c j
+
+-- the notes and the buckets of the first n slots are cleared, and no other cell is changed
+pub record Unmarked (vs : List ℕ) (n : ℕ) (ws : List ℕ) : Type 0 where
+  pub notes : (j : ℕ) → j < n → note_at ws j ≡ 0
+  pub lasts : (j : ℕ) → j < n → last_at ws j ≡ 0
+  pub rest : (j m : ℕ) → m < 8 → (j < n → m < 6) → cell ws j m ≡ cell vs j m
 
 -- the roots q 0, .. q (t - 1) and their parts are marked, and nothing else
 pub record RootsMarked (vs : List ℕ) (c : ℕ) (q : ℕ → ℕ) (t : ℕ) (ws : List ℕ) : Type 0 where

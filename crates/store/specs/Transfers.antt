@@ -1,5 +1,5 @@
 -- What comes of reading a row into a store and of writing one out.
-use Rattle.std.specs.Prelude.{◌≡◌, ℕ, ◌+◌, ◌-◌, ◌*◌, ◌<◌, ◌≤◌, List, ◌∷◌, length, take, Ok, Err, Result, slice_index, slice_set}
+use Rattle.std.specs.Prelude.{◌≡◌, ℕ, ◌+◌, ◌-◌, ◌*◌, ◌<◌, ◌≤◌, List, ◌∷◌, ◌++◌, length, take, Ok, Err, Result, slice_index, slice_set}
 use Rattle.rewriting.specs.Terms.{Term, letter, sign, Terms, none1, count, size, Fits}
 use Rattle.rewriting.specs.Different.{different, listed}
 use Rattle.books.specs.declared.words.Symbol.{Symbol}
@@ -84,20 +84,28 @@ pub record SymbolWritten (a : Store) (q : Roots) (r : Roots) : Type 0 where
   pub top : r.top ≡ q.top - 1 + count (inner (held a q (q.top - 1)))
   pub is : terms_down a r (q.top - 1) (count (inner (held a q (q.top - 1)))) ≡ inner (held a q (q.top - 1))
 
--- its symbol is written at a place; or what is wanting
+-- its symbol is written at a place; or nothing is, and what is wanting
 abbrev pub SymbolOrShort : Store → Roots → List ℕ → ℕ → Roots → List ℕ → Result (Unit {0}) Short → Type 0
 SymbolOrShort a q vs at r ws (Ok _) = SymbolWritten a q r × (at + 2 ≤ length vs) ×
     (ws ≡ slice_set (slice_set vs at (tag_word (held a q (q.top - 1)))) (at + 1) (number_word (held a q (q.top - 1))))
-SymbolOrShort a q vs at r ws (Err NoWord) = length vs < at + 2
-SymbolOrShort a q vs at r ws (Err NoCell) = HasRoots q.cells.now (q.top - 1 + count (inner (held a q (q.top - 1)))) → ⊥
+SymbolOrShort a q vs at r ws (Err NoWord) = (ws ≡ vs) × (length vs < at + 2)
+SymbolOrShort a q vs at r ws (Err NoCell) = (ws ≡ vs) ×
+    (HasRoots q.cells.now (q.top - 1 + count (inner (held a q (q.top - 1)))) → ⊥)
 
 -- the first n roots are as they were
 pub record RootsBelow (n : ℕ) (q r : Roots) : Type 0 where
   pub long : length r.cells.now ≡ length q.cells.now
   pub rest : (j : ℕ) → j < n → root_in r j ≡ root_in q j
 
+-- a beginning of the row of t is written, and the words behind it are as they were
+pub record Begun (t : Term) (vs ws : List ℕ) : Type 0 where
+  pub words : ℕ
+  pub unwritten : List ℕ
+  pub is : take words ws ++ unwritten ≡ row t
+  pub tail : (j : ℕ) → words ≤ j → slice_index ws j ≡ slice_index vs j
+
 -- the row of t is the first n words, and the others are as they were; or what is wanting: words, or cells for roots
 abbrev pub WrittenOrShort : Roots → Term → List ℕ → List ℕ → Result ℕ Short → Type 0
 WrittenOrShort q t vs ws (Ok n) = (n ≡ 2 * size t) × (take n ws ≡ row t) × ((j : ℕ) → n ≤ j → slice_index ws j ≡ slice_index vs j)
-WrittenOrShort q t vs ws (Err NoWord) = length vs < 2 * size t
-WrittenOrShort q t vs ws (Err NoCell) = HasRoots q.cells.now (q.top + size t) → ⊥
+WrittenOrShort q t vs ws (Err NoWord) = Begun t vs ws × (length vs < 2 * size t)
+WrittenOrShort q t vs ws (Err NoCell) = Begun t vs ws × (HasRoots q.cells.now (q.top + size t) → ⊥)

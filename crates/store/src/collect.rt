@@ -7,7 +7,7 @@ ghost use Rattle.std.specs.Prelude.{◌≡◌, ℕ, ◌+◌, ◌-◌, ◌*◌, �
 ghost use Rattle.store.specs.Cells.{HasSlot};
 ghost use Rattle.store.specs.Slots.{kind_at, tag_of, arity_at, part_at, last_at, note_at, Shape, Shared};
 ghost use Rattle.store.specs.Chains.{Chains};
-ghost use Rattle.store.specs.Marks.{Closed, MarkedToo, AllMarked, RootsMarked};
+ghost use Rattle.store.specs.Marks.{Closed, MarkedToo, AllMarked, Unmarked, RootsMarked};
 ghost use Rattle.store.specs.Slides.{Translated, Slid, Collected};
 ghost use Rattle.store.specs.Roots.{HasRoots};
 ghost use Rattle.store.specs.Stacks.{root_in, RootsIn, RootsMoved};
@@ -17,6 +17,17 @@ use crate::keys::Key;
 use crate::slots::{HEAD, LAST, NOTE, arity_at, clear, get, part, put};
 use crate::types::{Place, Roots};
 use std::array;
+
+// Clears the marks and the buckets of the first n slots. They lie side by side, and all slots are gone through only once for both.
+fn unmark(ws: &mut [u32], n: usize)
+    requires { 16 * n ≤ length ws.old }
+    ensures { Unmarked ws.old n ws.new }
+{
+    for i in 0..n {
+        put(ws, i, NOTE, 0);
+        put(ws, i, LAST, 0);
+    }
+}
 
 fn mark_parts(ws: &mut [u32], count: usize, i: usize)
     requires { (Shape ws.old count) × (i < count) }
@@ -54,9 +65,9 @@ fn mark_roots(ws: &mut [u32], count: usize, roots: &Roots)
 fn mark(ws: &mut [u32], count: usize, roots: &Roots)
     requires shape { Shape ws.old count }
     requires roots { RootsIn roots.now count }
+    requires unmarked { (j : ℕ) → j < count → note_at ws.old j ≡ 0 }
     ensures { RootsMarked ws.old count (λ k. root_in roots.now k) roots.now.top ws.new }
 {
-    clear(ws, count, NOTE);
     mark_roots(ws, count, roots);
     mark_reached(ws, count);
 }
@@ -131,8 +142,8 @@ pub fn compact(ws: &mut [u32], count: usize, mask: usize, roots: &mut Roots) -> 
     ensures top { roots.new.top ≡ roots.old.top }
     ensures long { length roots.new.cells.now ≡ length roots.old.cells.now }
 {
+    unmark(ws, count.max(mask + 1));
     mark(ws, count, roots);
-    clear(ws, mask + 1, LAST);
     let n = slide(ws, count, mask);
     move_roots(roots, ws);
     clear(ws, n, NOTE);

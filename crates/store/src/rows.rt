@@ -77,14 +77,15 @@ impl Store<'_> {
                 Ok(())
             }
             Node::Sign(f, n) => {
-                out[at..at + 2].copy_from_slice(&Symbol::Sign(f).words());
                 self.push_parts(roots, p, n)?;
+                out[at..at + 2].copy_from_slice(&Symbol::Sign(f).words());
                 Ok(())
             }
         }
     }
 
-    // Writes the row of the term at a place, and says how many words that is. The cells above the roots are used on the way.
+    // Writes the row of the term at a place, and says how many words that is. The cells above the roots are used on the way. If it is
+    // refused, a beginning of the row may stand there.
     pub fn write_row(&self, roots: &mut Roots, p: Place, out: &mut [u32]) -> Result<usize, Short>
         requires { (Inside self.now roots.old) × (p.0 < self.now.count) }
         ensures top { roots.new.top ≡ roots.old.top }

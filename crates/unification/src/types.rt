@@ -7,7 +7,7 @@ use store::Place;
 // Stays an array, as the images below: there are at most 96 places, and no heap is used here.
 #[derive(Clone, Copy)]
 pub struct Classes {
-    pub labels: [Place; 96],
+    pub(crate) labels: [Place; 96],
     ghost low: { All (λ p. p.0 < 96) labels },
 }
 

@@ -1,6 +1,6 @@
 -- Equal places have equal terms.
 use Rattle.std.proofs.Common.{refl}
-use Rattle.engine.proofs.Comparing.{one_term, forms}
+use Rattle.engine.proofs.Comparing.{one_term}
 use Rattle.engine.proofs.reducer.Reducer.compare_roots.Goals as goal
 
 pub returns-then-same-clause-compared : goal.returns-then-same-clause-compared
@@ -8,9 +8,3 @@ returns-then-same-clause-compared c =
     let r = c.args.self.now in
     one_term r.rules.now.book r.work.now c.place.result.0 c.place-2.result.0 c.place.ensures c.place-2.ensures
     (c.if-same.ensures.yes refl)
-
-pub returns-clause-compared : goal.returns-clause-compared
-returns-clause-compared c =
-    let r = c.args.self.now in
-    forms r.rules.now.book r.work.now c.both_normal.new.self.work.now c.in_ok-both_normal.ensures.normal
-    c.place-3.result.0 c.place-4.result.0 c.place-3.ensures c.place-4.ensures c.same-2.result c.same-2.ensures.yes c.same-2.ensures.no

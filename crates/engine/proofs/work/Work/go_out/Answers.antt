@@ -1,5 +1,4 @@
 -- The sign is made of its parts.
-use Rattle.std.proofs.Common.{arith}
 use Rattle.engine.proofs.Turned.{out_rewritable, out_done, out_turned}
 use Rattle.engine.proofs.Honesty.{honest_grown}
 use Rattle.books.specs.Books.{told}
@@ -12,10 +11,6 @@ apply-requires-clause-rewritable c =
     out_rewritable c.args.book.now low c.args.self.now.store c.args.self.now.roots c.args.self.now.frames c.args.v ready k.some
     c.args.frame k.is c.gather_parts-parts.result
     c.share_sign-p.new.self c.share_sign-p.result c.requires.frame.1 c.gather_parts-parts.ensures c.share_sign-p.ensures.shared
-
-pub apply-requires-clause-slots : goal.apply-requires-clause-slots
-apply-requires-clause-slots c =
-    let sh = c.share_sign-p.ensures.shared in omega (arith, sh.few, sh.grown.limit, c.requires.slots)
 
 pub apply-requires-clause-honest : goal.apply-requires-clause-honest
 apply-requires-clause-honest c =

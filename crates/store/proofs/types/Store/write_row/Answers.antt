@@ -5,13 +5,14 @@ use Rattle.rewriting.proofs.Glueing.{size_some}
 use Rattle.books.specs.Rows.{row}
 use Rattle.store.specs.Stores.{term_in, held}
 use Rattle.store.specs.Transfers.{WrittenOrShort}
-use Rattle.store.proofs.Emitting.{no_cell, emitted_more, fewer, emitted_all, emitted_short}
+use Rattle.store.proofs.Emitting.{no_cell, not_begun, emitted_more, fewer, emitted_all, emitted_short}
 use Rattle.store.proofs.types.Store.write_row.Goals as goal
 
 pub returns-in_err-push-clause-written : goal.returns-in_err-push-clause-written
 returns-in_err-push-clause-written c =
     rw (no_cell c.from_residual.result c.from_residual.ensures.1)
-    (λ f. c.in_err-push.ensures.2 (omega (arith, size_some (term_in c.args.self.now c.args.p.0))))
+    (not_begun (term_in c.args.self.now c.args.p.0) c.args.out.now,
+    λ f. c.in_err-push.ensures.2 (omega (arith, size_some (term_in c.args.self.now c.args.p.0))))
 
 pub returns-in-Err-clause-written : goal.returns-in-Err-clause-written
 returns-in-Err-clause-written c =

@@ -1,5 +1,5 @@
 -- The parts of a sign come in its place.
-use Rattle.std.proofs.Common.{◌≡◌, ℕ, ◌-◌, length, sym, ap, ◌∙◌, arith, rules}
+use Rattle.std.proofs.Common.{◌≡◌, ℕ, ◌-◌, length, sym, refl, ap, ◌∙◌, arith, rules}
 use Rattle.rewriting.specs.Terms.{sign}
 use Rattle.store.specs.Stores.{term_in, parts_in, held}
 use Rattle.store.proofs.Emitting.{no_cell, sign_count, sign_words, sign_written}
@@ -26,4 +26,4 @@ returns-in_err-push_parts-in-Sign-clause-symbol c =
     let e : held a q (q.top - 1) ≡ sign f (parts_in a p n) = ap (λ (x : ℕ). term_in a x) (sym c.place-p.ensures)
     ∙ c.in-Sign.ensures.2 in
     rw (no_cell c.from_residual.result c.from_residual.ensures.1)
-    (λ g. c.in_err-push_parts-in-Sign.ensures.2 (omega (arith, sign_count a q p f n u e cut i, ap length cut.cells, cut.top)))
+    (refl, λ g. c.in_err-push_parts-in-Sign.ensures.2 (omega (arith, sign_count a q p f n u e cut i, ap length cut.cells, cut.top)))
