@@ -123,24 +123,26 @@ module _ (s starts : List ℕ) (hf : HeadFine s)
   pub is_book : Reads s (book_of s)
   is_book = record { is = is_row; fine = is_fine }
 
+  how_many : length (listed sd.terms) ≡ 2 * eqs_of s + 2 * rules_of s
+  how_many = sym (count_terms (listed sd.terms)) ∙ (ap count (terms_listed sd.terms) ∙ sd.counted)
+
   -- each left side of a rule has its first symbol in the words
   pub start_within : (i : ℕ) → i < rules_of s → get_or starts (2 * (eqs_of s + i)) 0 + 2 ≤ length s
   start_within i h =
       let j : ℕ = 2 * (eqs_of s + i) in
-      let n : length (listed sd.terms) ≡ 2 * eqs_of s + 2 * rules_of s =
-      sym (count_terms (listed sd.terms)) ∙ (ap count (terms_listed sd.terms) ∙ sd.counted) in
       let t : Term = get_or (listed sd.terms) j (letter 0) in
-      let a = sd.each j t (nth_getD (listed sd.terms) j (letter 0) (omega (arith, n))) in
+      let a = sd.each j t (nth_getD (listed sd.terms) j (letter 0) (omega (arith, how_many))) in
       omega (arith, a.long, a.within, size_some t)
 
   pub is_laid : (l : Layout) → l.signs ≡ signs_of s → l.equations ≡ eqs_of s → l.rules ≡ rules_of s → l.starts ≡ starts →
-      Laid s (book_of s) l
+      ((i : ℕ) → 2 * eqs_of s + 2 * rules_of s < i → get_or starts i 0 ≡ 0) → Laid s (book_of s) l
   unfolding book_of
-  is_laid l p q r e = record {
+  is_laid l p q r e zeros = record {
     signs = p ∙ sym parts_length;
     equations = q ∙ sym eqs_length;
     rules = r ∙ sym rules_length;
     at = λ i t k. rw e (sd.each i t (subst (λ (ts : List Term). nth ts i ≡ some t) sides_are k));
+    behind = λ i h. rw e (zeros i (omega (arith, h, ap length sides_are, how_many)));
   }
 
 -- the sides, in the numbers that a program has

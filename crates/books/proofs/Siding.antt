@@ -1,9 +1,11 @@
 -- Sides, one after the other: what a loop over them keeps, and why it stops.
-use Rattle.std.proofs.Common.{◌≡◌, ℕ, zero, suc, ◌+◌, ◌<◌, ◌≤◌, ◌≢◌, ◌⊎◌, List, ◌∷◌, ◌++◌, length, get_or, drop, set, None, sym, refl, ap}
-use Rattle.std.proofs.Common.{◌∙◌}
+use Rattle.std.proofs.Common.{◌≡◌, ℕ, zero, suc, ◌+◌, ◌-◌, ◌<◌, ◌≤◌, ◌≢◌, ◌⊎◌, List, ◌∷◌, ◌++◌, length, get_or, drop, set, replicate, None}
+use Rattle.std.proofs.Common.{sym, refl, ap, ◌∙◌, get_or-drop, ⊎_elim}
 use Rattle.std.proofs.Common.{subst, inl, inr, append_assoc, append-nil, arith, length-drop, get_or-set_other, get_or-set_same}
 use Rattle.std.proofs.Common.{Bool, true, false, eqb, eqb-true}
-use Rattle.std.proofs.lemmas.List.{set-append_left}
+use Rattle.std.proofs.lemmas.List.{set-append_left, get_or-append_right, get_or-replicate, get_or_past}
+use Rattle.std.proofs.lemmas.Bool.{cases_lt}
+use lib.ListN.{length-replicate}
 use Rattle.std.specs.Bool.{then_some}
 use borrow.Author.Tests.{eqb-false}
 use mathlib.Core.Option.{some}
@@ -38,6 +40,15 @@ nth_last (and1 v ts) t u (suc i) e = elim (nth_last ts t u i e)
 -- what is written in a list that stands behind one element and in front of others
 pub set_behind : (x : ℕ) (xs ys : List ℕ) (i e : ℕ) → i < length xs → set (x ∷ (xs ++ ys)) (i + 1) e ≡ x ∷ (set xs i e ++ ys)
 set_behind x xs ys i e h = let d : i + 1 ≡ suc i = omega arith in rw d (ap (λ (zs : List ℕ). x ∷ zs) (set-append_left xs ys i e h))
+
+-- behind one element and others stands what is left of zeros
+pub zeros_behind : (x : ℕ) (xs : List ℕ) (n k i : ℕ) → length xs < i → get_or {A = ℕ} (x ∷ (xs ++ drop k (replicate n 0))) i 0 ≡ 0
+zeros_behind x xs n k zero h = absurd (omega arith)
+zeros_behind x xs n k (suc i) h =
+    let zs : List ℕ = replicate n 0 in
+    let j : ℕ = k + (i - length xs) in
+    get_or-append_right xs (drop k zs) (length xs) i 0 refl (omega arith) ∙ (get_or-drop k zs (i - length xs) 0 ∙ ⊎_elim
+    (get_or-replicate n j 0 0) (λ l. get_or_past zs j 0 (omega (arith, length-replicate {A = ℕ} n 0))) (cases_lt j n))
 
 module _ (ps ws : List ℕ) where
   pub sides_none : (a : ℕ) (starts : List ℕ) → a ≤ length ws → get_or starts 0 0 ≡ a → SidesAt ps ws 0 a a starts
@@ -134,12 +145,12 @@ module _ (ps ws : List ℕ) where
 
   -- all of them, if the last one ends where the words do
   pub sides_end : (n m a z : ℕ) (starts : List ℕ) → n ≡ m → SidesAt ps ws n a z starts →
-      SidesRead ps ws m a (then_some (eqb z (length ws)) starts)
-  sides_end n m a z starts d s = by_end (eqb z (length ws)) refl
+      ((i : ℕ) → m < i → get_or starts i 0 ≡ 0) → SidesRead ps ws m a (then_some (eqb z (length ws)) starts)
+  sides_end n m a z starts d s behind = by_end (eqb z (length ws)) refl
     where
       all : SidesAt ps ws m a z starts
       all = subst (λ (k : ℕ). SidesAt ps ws k a z starts) d s
 
       by_end : (b : Bool) → eqb z (length ws) ≡ b → SidesRead ps ws m a (then_some b starts)
-      by_end true e = subst (λ (k : ℕ). SidesAt ps ws m a k starts) (eqb-true z (length ws) e) all
+      by_end true e = (subst (λ (k : ℕ). SidesAt ps ws m a k starts) (eqb-true z (length ws) e) all, behind)
       by_end false e = more_words m a z starts all (eqb-false z (length ws) e)

@@ -18,12 +18,13 @@ sides (e ∷ es) = e.left ∷ e.right ∷ sides es
 abbrev pub sides_of : Book → List Term
 sides_of b = sides b.eqs ++ sides b.rules
 
--- each side stands from its start to its end
+-- each side stands from its start to its end; behind the last one's end the array holds 0
 pub record Laid (s : List ℕ) (b : Book) (l : Layout) : Type 0 where
   pub signs : l.signs ≡ length b.parts
   pub equations : l.equations ≡ length b.eqs
   pub rules : l.rules ≡ length b.rules
   pub at : (i : ℕ) (t : Term) → nth (sides_of b) i ≡ some t → TermAt s (slice_index l.starts i) (slice_index l.starts (i + 1)) t
+  pub behind : (i : ℕ) → length (sides_of b) < i → slice_index l.starts i ≡ 0
 
 -- the words are the one book that they say, laid out so; or they are none
 abbrev pub BookRead : List ℕ → Maybe Layout → Type 0
@@ -72,7 +73,7 @@ pub record SidesAt (ps ws : List ℕ) (n a z : ℕ) (starts : List ℕ) : Type 0
   pub last : slice_index_or starts n 0 ≡ z
   pub within : z ≤ length ws
 
--- n sides stand from place a to the end of the words, or don't
+-- n sides stand from place a to the end of the words, and what is behind the last one's end is 0; or they don't
 abbrev pub SidesRead : List ℕ → List ℕ → ℕ → ℕ → Maybe (List ℕ) → Type 0
-SidesRead ps ws n a (Some starts) = SidesAt ps ws n a (length ws) starts
+SidesRead ps ws n a (Some starts) = SidesAt ps ws n a (length ws) starts × ((i : ℕ) → n < i → slice_index starts i ≡ 0)
 SidesRead ps ws n a None = (ts : Terms) → count ts ≡ n → AllOver SmallLetter ps ts → Short ts → rows ts ≢ drop a ws

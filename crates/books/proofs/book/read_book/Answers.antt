@@ -17,4 +17,4 @@ returns c =
     let d = c.in_ok-head.head in
     let starts = c.in_ok-starts.starts in
     let at = sides_here s d.signs d.equations d.rules (Some starts) h.1 h.2 h.3 c.in_ok-starts.ensures in
-    (is_book s starts h.0 at, is_laid s starts h.0 at _ h.1 h.2 h.3 refl)
+    (is_book s starts h.0 at.0, is_laid s starts h.0 at.0 _ h.1 h.2 h.3 refl at.1)

@@ -1,7 +1,7 @@
 -- One side more, or the reason why there is none.
-use Rattle.std.proofs.Common.{ℕ, ◌+◌, List, [], refl, ◌∙◌, subst, arith, rules, length-append, length-set}
+use Rattle.std.proofs.Common.{ℕ, ◌+◌, ◌-◌, List, [], refl, ◌∙◌, subst, arith, rules, length-append, length-set}
 use Rattle.books.specs.Layouts.{SidesAt}
-use Rattle.books.proofs.Siding.{sides_none, sides_more, set_behind, no_side, long_side, sides_end}
+use Rattle.books.proofs.Siding.{sides_none, sides_more, set_behind, zeros_behind, no_side, long_side, sides_end}
 use Rattle.books.proofs.book.read_sides.Goals as goal
 
 pub loop-start-init : goal.loop-start-init
@@ -32,4 +32,5 @@ loop-start-preserved c =
 pub returns : goal.returns
 returns c =
     rw c.then_some.ensures (sides_end c.args.parts.now c.args.words.now c.loop-start.start-index c.args.count c.args.from c.loop-start.at
-    _ (omega (arith, c.loop-start.invariant.1)) (c.loop-start.invariant.0 _))
+    _ (omega (arith, c.loop-start.invariant.1)) (c.loop-start.invariant.0 _)
+    (λ i h. zeros_behind c.args.from c.loop-start.start-items 256 (c.args.count + 1 - 1) i (omega (arith, c.loop-start.invariant.1))))
