@@ -62,9 +62,12 @@ module _ (vs us ws : List ℕ) (c e : ℕ) (q : ℕ → ℕ) (t : ℕ) (w : Shar
       wanted_y i l =
           let f = s.from i l in
           let h = m.only f.of f.old f.marked in
-          let old = kept_u vs us c e w long_u z in
-          (h.0, h.1, subst (λ (x : Term). Part x (term_of vs (q h.0))) (sym (kept_y i l ∙ f.term ∙ kept f.of f.old ∙ sym (old f.of f.old)))
-              (subst (λ (x : Term). Part (term_of us f.of) x) (old (q h.0) (low h.0 h.1)) h.2))
+          let old = kept_u vs us c e w long_u z in (
+            h.0,
+            h.1,
+            subst (λ (x : Term). Part x (term_of vs (q h.0))) (sym (kept_y i l ∙ f.term ∙ kept f.of f.old ∙ sym (old f.of f.old)))
+                (subst (λ (x : Term). Part (term_of us f.of) x) (old (q h.0) (low h.0 h.1)) h.2),
+          )
 
       kept_all : Collected vs c q t ys n r
       kept_all = record {

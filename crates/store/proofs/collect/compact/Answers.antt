@@ -10,9 +10,9 @@ mark-requires-clause-shape c = (unmarked_shared c.args.ws.now c.unmark.new.ws c.
 
 pub slide-n-requires-clause-shared : goal.slide-n-requires-clause-shared
 slide-n-requires-clause-shared c = (
-    ready c.args.ws.now c.unmark.new.ws c.mark.new.ws c.args.count _ (λ k. root_in c.args.roots.now k) c.args.roots.now.top
-    c.requires.shared.0 (omega arith) c.unmark.ensures (omega arith) c.mark.ensures,
-    (c.mark.ensures.closed, omega arith),
+  ready c.args.ws.now c.unmark.new.ws c.mark.new.ws c.args.count _ (λ k. root_in c.args.roots.now k) c.args.roots.now.top
+      c.requires.shared.0 (omega arith) c.unmark.ensures (omega arith) c.mark.ensures,
+  (c.mark.ensures.closed, omega arith),
 )
 
 pub slide-n-requires-clause-empty : goal.slide-n-requires-clause-empty

@@ -10,9 +10,10 @@ use Rattle.store.proofs.types.Store.write_row.Goals as goal
 
 pub returns-in_err-push-clause-written : goal.returns-in_err-push-clause-written
 returns-in_err-push-clause-written c =
-    rw (no_cell c.from_residual.result c.from_residual.ensures.1)
-    (not_begun (term_in c.args.self.now c.args.p.0) c.args.out.now,
-    λ f. c.in_err-push.ensures.2 (omega (arith, size_some (term_in c.args.self.now c.args.p.0))))
+    rw (no_cell c.from_residual.result c.from_residual.ensures.1) (
+      not_begun (term_in c.args.self.now c.args.p.0) c.args.out.now,
+      λ f. c.in_err-push.ensures.2 (omega (arith, size_some (term_in c.args.self.now c.args.p.0))),
+    )
 
 pub returns-in-Err-clause-written : goal.returns-in-Err-clause-written
 returns-in-Err-clause-written c =
