@@ -1,13 +1,14 @@
 -- Building symbol by symbol, from the last to the first: what each turn needs and keeps.
 use Rattle.std.proofs.Common.{◌≡◌, ℕ, zero, suc, ◌+◌, ◌-◌, ◌*◌, ◌<◌, ◌≤◌, ◌⊎◌, List, [], ◌∷◌, ◌++◌, length, get_or, drop, Option, Some, sym}
-use Rattle.std.proofs.Common.{ap, ◌∙◌}
+use Rattle.std.proofs.Common.{refl, ap, ◌∙◌}
 use Rattle.std.proofs.Common.{subst, ap₂, inl, inr, ⊎_elim, append-nil, arith, get_or-drop}
 use mathlib.Core.Option.{some}
 use Rattle.rewriting.specs.Terms.{nth, Term, letter, sign, Terms, none1, and1, glue, count, size, sizes}
 use Rattle.rewriting.specs.Terms.{put, puts, In, is, Ins, part, here, there, AllOver, AnyLetter}
-use Rattle.rewriting.proofs.Glueing.{count_glue, count_sizes, puts_glue}
+use Rattle.rewriting.proofs.Glueing.{count_glue, count_sizes, puts_glue, size_some}
 use Rattle.rewriting.proofs.Replacing.{count_puts}
 use Rattle.books.specs.Rows.{row, rows}
+use Rattle.books.proofs.Glueing.{glue_none}
 use Rattle.books.specs.Layouts.{FewParts}
 use Rattle.books.proofs.Elements.{nth_below, nth_is}
 use Rattle.books.proofs.Forests.{behind}
@@ -18,7 +19,7 @@ use Rattle.store.specs.declared.types.Store.{Store}
 use Rattle.store.specs.declared.types.Place.{Place}
 use Rattle.store.specs.Stores.{Grown, term_in}
 use Rattle.store.specs.Making.{SignShared}
-use Rattle.store.specs.Transfers.{RowOf}
+use Rattle.store.specs.Transfers.{RowOf, inner}
 use Rattle.store.proofs.Sounds.{sound_in}
 use Rattle.store.proofs.Cases.{le_or_lt}
 use Rattle.store.proofs.Placing.{grown_same, grown_then}
@@ -26,9 +27,9 @@ use Rattle.store.proofs.Forests.{after, after_rows, after_over, after_sizes, non
 use Rattle.store.proofs.Reading.{symbols}
 use Rattle.engine.specs.declared.types.Bindings.{Bindings}
 use Rattle.engine.specs.Matching.{bound, put_in, AllInside, Bound, stacked, PlacesInside}
-use Rattle.engine.specs.Building.{Taken, Fillable, Buildable, SignsAdded, SymbolBuilt, RowInstanceBuilt}
+use Rattle.engine.specs.Building.{Taken, Fillable, Buildable, SignsAdded, SymbolBuilt, BehindBuilt, RowInstanceBuilt, RowPartsBuilt}
 use Rattle.engine.proofs.Pendings.{zero_place, stacked_more, inside_more}
-use Rattle.engine.proofs.Builts.{stacked_count, inside_grown, taken_inside, sign_on_top, put_in_bound, put_in_grown}
+use Rattle.engine.proofs.Builts.{stacked_count, inside_grown, taken_inside, sign_on_top, put_in_bound, put_in_grown, parts_taken}
 
 no_letter : {f x : ℕ} {ts : Terms} → sign f ts ≡ letter x → ⊥
 no_letter e = let z : ◌≡◌ {A = ℕ} 0 1 = cc in omega arith
@@ -165,6 +166,33 @@ none_built t a b k q e z = record {
       ∙ ap (puts (put_in a b)) (sym (none_left (after k (and1 t none1)) (omega (arith, after_sizes k (and1 t none1) (omega arith)))));
 }
 
+-- all but the first symbol is built, and so the parts are
+behind_inner : (t : Term) → after 1 (and1 t none1) ≡ inner t
+behind_inner (letter x) = refl
+behind_inner (sign f ts) = glue_none ts
+
+pub behind_built : (t : Term) (a : Store) (b : Bindings) (st : Store) (q : List Place) → SoBuilt t a b 1 st q → BehindBuilt a b t st q
+behind_built t a b st q s = record {
+  grown = s.grown;
+  few = s.few;
+  signs = s.signs;
+  inside = s.inside;
+  terms = s.terms ∙ ap (puts (put_in a b)) (behind_inner t);
+}
+
+pub behind_count : (t : Term) (a : Store) (b : Bindings) (st : Store) (q : List Place) → BehindBuilt a b t st q →
+    length q ≡ count (inner t)
+behind_count t a b st q s = sym (stacked_count st q) ∙ ap count s.terms ∙ count_puts (put_in a b) (inner t)
+
+pub so_behind : (t : Term) (a : Store) (b : Bindings) (st : Store) (q : List Place) → BehindBuilt a b t st q → SoBuilt t a b 1 st q
+so_behind t a b st q s = record {
+  grown = s.grown;
+  few = s.few;
+  signs = s.signs;
+  inside = s.inside;
+  terms = s.terms ∙ ap (puts (put_in a b)) (sym (behind_inner t));
+}
+
 module _ (ps ws : List ℕ) (few : FewParts ps) (t : Term) (a : Store) (b : Bindings) (f : Fillable ps ws b t)
     (inside : AllInside a b) where
   pub symbols_built : length ws ≡ 2 * size t
@@ -217,4 +245,33 @@ module _ (ps ws : List ℕ) (few : FewParts ps) (t : Term) (a : Store) (b : Bind
         signs = s.signs;
         inside = s.inside 0 (omega arith);
         is = cc;
+      }
+
+  -- the first symbol, after all that is behind it
+  pub first_turn : (st : Store) (q : List Place) → BehindBuilt a b t st q → (x : Option Symbol) (y : Symbol) → x ≡ Some y → SymbolAt ws 0 x →
+      Turn a ps y b st q (and1 t none1)
+  first_turn st q s x y = turn 1 st q (omega arith) (omega (arith, size_some t)) (so_behind t a b st q s) x y
+
+  pub first_built : (st : Store) (q : List Place) → BehindBuilt a b t st q → (x : Option Symbol) (y : Symbol) → x ≡ Some y →
+      SymbolAt ws 0 x → (su : Store) (r : List Place) → SymbolBuilt ps y b st q su r → RowInstanceBuilt a b t su (get_or r 0 zero_place)
+  first_built st q s x y e at su r d =
+      built_all su r (built_more 1 st q (so_behind t a b st q s) (omega arith) (first_turn st q s x y e at) su r d)
+
+  pub first_long : (st : Store) (q : List Place) → BehindBuilt a b t st q → (x : Option Symbol) (y : Symbol) → x ≡ Some y → SymbolAt ws 0 x →
+      (su : Store) (r : List Place) → SymbolBuilt ps y b st q su r → length r ≡ 1
+  first_long st q s x y e at su r d =
+      one_built su r (built_more 1 st q (so_behind t a b st q s) (omega arith) (first_turn st q s x y e at) su r d)
+
+  -- the parts are taken
+  pub parts_built : (n : ℕ) (st : Store) (q : List Place) → BehindBuilt a b t st q → n ≤ 4 → count (inner t) ≡ n → (xs r : List Place) →
+      Taken q n xs r → RowPartsBuilt a b t n st xs
+  parts_built n st q s l c xs r k =
+      let long : length q ≡ n = behind_count t a b st q s ∙ c in
+      let vs = puts (put_in a b) (inner t) in
+      record {
+        sound = sound_in st;
+        grown = s.grown;
+        few = omega (arith, s.few);
+        inside = λ i m. subst (λ (p : Place). p.0 < st.count) (sym (k.parts i m)) (s.inside (length q - 1 - i) (omega arith));
+        terms = (parts_taken st q n xs r k vs none1 (omega arith) (count_puts (put_in a b) (inner t) ∙ c) (s.terms ∙ sym (glue_none vs))).0;
       }

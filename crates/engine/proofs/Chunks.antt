@@ -1,8 +1,8 @@
 -- A row read by chunks of two words, each of them a symbol: where matching and building have come to when some words are left.
 use Rattle.std.proofs.Common.{◌≡◌, ℕ, ◌+◌, ◌<◌, ◌≤◌, List, ◌++◌, length, get_or, drop, Some, None}
 use Rattle.std.proofs.Common.{Option as Maybe, sym, ap, ◌∙◌, subst, arith, rules}
-use Rattle.std.proofs.Common.{[], ◌-◌, ◌*◌, ◌%◌, refl, append_assoc, append-nil}
-use Rattle.std.proofs.lemmas.List.{nil_from_length}
+use Rattle.std.proofs.Common.{[], ◌-◌, ◌*◌, ◌%◌, refl, append_assoc, append-nil, take, take-append-drop, length-take-le}
+use Rattle.std.proofs.lemmas.List.{nil_from_length, take_rest}
 use Rattle.std.proofs.Common.{length-append, length-drop, get_or-drop, drop-drop}
 use lib.ListN.{get_or-append}
 use lib.Seq.{drop-append_seam}
@@ -17,11 +17,12 @@ use Rattle.store.specs.Stores.{term_in}
 use Rattle.engine.specs.declared.types.Bindings.{Bindings}
 use Rattle.engine.specs.Matching.{Pattern, SomePattern, PlacesInside, MatchesAll, MatchedOn, Turns, Turned}
 use Rattle.engine.specs.Matching.{AllInside}
-use Rattle.engine.specs.Building.{Fillable, SymbolBuilt}
+use Rattle.rewriting.proofs.Glueing.{size_some}
+use Rattle.engine.specs.Building.{Fillable, SymbolBuilt, BehindBuilt}
 use Rattle.books.specs.Layouts.{FewParts}
 use Rattle.store.proofs.Forests.{after}
-use Rattle.store.proofs.Reading.{symbol_there}
-use Rattle.engine.proofs.Builder.{SoBuilt, Turn, none_built, symbols_built, turn, built_more}
+use Rattle.store.proofs.Reading.{symbol_there, symbols}
+use Rattle.engine.proofs.Builder.{SoBuilt, Turn, none_built, symbols_built, turn, built_more, behind_built}
 use Rattle.engine.proofs.Matcher.{no_turn, match_room, match_end}
 
 -- a chunk says the symbol at its place, and the words behind it are left
@@ -152,6 +153,33 @@ module _ {ps ws : List ℕ} (few : FewParts ps) {b : Bindings} {a : Store} (insi
       there = front;
       built = λ t f. built_more ps ws few t a b f inside m.symbols st q (m.built t f) some_left (turn_there y s t f) su r made;
     }
+
+-- where the first symbol is left out
+pub two_words : (ps ws : List ℕ) (b : Bindings) → ((t : Term) × Fillable ps ws b t) → 2 ≤ length ws
+two_words ps ws b (t, f) = omega (arith, symbols f.row, size_some t)
+
+pub behind_next : (ws : List ℕ) {rest : List ℕ} → (more xs : List ℕ) → rest ≡ more ++ xs → take 2 ws ++ rest ≡ (take 2 ws ++ more) ++ xs
+behind_next ws more xs d = ap (λ (v : List ℕ). take 2 ws ++ v) d ∙ sym (append_assoc (take 2 ws) more xs)
+
+module _ {ps ws : List ℕ} {b : Bindings} {a : Store} where
+  pub behind_from : FewParts ps → AllInside a b → (some : (t : Term) × Fillable ps ws b t) → (before rest : List ℕ) →
+      take (length ws - 2) (drop 2 ws) ≡ before ++ rest → length before ≡ length (take (length ws - 2) (drop 2 ws)) % 2 →
+      (q : List Place) → q ≡ [] → BuiltTo ps ws b a (take 2 ws ++ rest) a q
+  behind_from few inside (t, f) before rest d odd q e =
+      let all : take (length ws - 2) (drop 2 ws) ≡ drop 2 ws = take_rest ws 2 in
+      let even : length ws ≡ 2 * size t = symbols f.row in
+      let left : length (take (length ws - 2) (drop 2 ws)) ≡ length ws - 2 = ap length all ∙ length-drop 2 ws in
+      let none : before ≡ [] = nil_from_length before (omega (arith, size_some t)) in
+      let is : ws ≡ take 2 ws ++ rest = sym (take-append-drop 2 ws)
+      ∙ ap (λ (v : List ℕ). take 2 ws ++ v) (sym all ∙ d ∙ ap (λ (v : List ℕ). v ++ rest) none) in
+      built_from few inside (t, f) [] (take 2 ws ++ rest) is (omega (arith, even)) q e
+
+  pub behind_end : (rest : List ℕ) {st : Store} {q : List Place} → BuiltTo ps ws b a (take 2 ws ++ rest) st q → length rest < 2 →
+      (t : Term) → Fillable ps ws b t → BehindBuilt a b t st q
+  behind_end rest {st = st} {q = q} m short t f =
+      let two : length (take 2 ws) ≡ 2 = length-take-le 2 ws (two_words ps ws b (t, f)) in
+      let z : m.symbols ≡ 1 = omega (arith, m.long, length-append (take 2 ws) rest) in
+      behind_built t a b st q (subst (λ (k : ℕ). SoBuilt t a b k st q) z (m.built t f))
 
 -- no chunk is left
 pub built_end : {ps ws rest : List ℕ} {b : Bindings} {a st : Store} {q : List Place} → BuiltTo ps ws b a rest st q → length rest < 2 →

@@ -9,7 +9,7 @@ use Rattle.rewriting.proofs.Moving.{move_steps}
 use Rattle.store.specs.declared.types.Store.{Store}
 use Rattle.store.specs.declared.types.Roots.{Roots}
 use Rattle.store.specs.declared.types.Place.{Place}
-use Rattle.store.specs.Stores.{term_in, held}
+use Rattle.store.specs.Stores.{term_in, held, Inside}
 use Rattle.store.specs.Stacks.{root_in}
 use Rattle.engine.specs.declared.types.Frame.{Frame}
 use Rattle.engine.specs.declared.types.Frames.{Frames}
@@ -43,22 +43,29 @@ module _ (rs : List Eq) where
           frames_same (λ k. held st q k) (λ k. held su q k) fr.words.now fr.words.now fr.depth q.top low run1.framed
           (λ k l. h.terms (root_in q k) (run1.inside.low k l)) (λ e l. refl)
 
-      -- another focus, to which steps lead
+      pub inside_to : Inside su q
+      inside_to = record {
+        fits = run1.inside.fits;
+        low = λ k m. let x = run1.inside.low k m in omega (arith, h.longer);
+      }
+
+      -- another term, to which steps lead
+      pub asked_to : (u : Term) → Steps rs (term_in st (focus_place c)) u → Asks (AskedFor rs su fr) (frames_in (work su q fr)) u
+      asked_to u s =
+          subst (λ (ks : List ModelFrame). Asks (AskedFor rs su fr) ks u) (sym frames_holding)
+          (asks_steps rs (AskedFor rs su fr) (frames_in (work st q fr)) (term_in st (focus_place c)) u
+          (λ d v w k a. asked_on su fr d v w k a) s
+          (asks_map (AskedFor rs st fr) (AskedFor rs su fr) (frames_in (work st q fr)) (term_in st (focus_place c))
+          (λ d u m a. asked_holding fr d u a) run1.asked))
+
       pub running_to : (e : Focus) → focus_place e < su.count → Steps rs (term_in st (focus_place c)) (term_in su (focus_place e)) →
           Running rs low (work su q fr) e
       running_to e l s = record {
         honest = h.honest;
-        inside = record {
-          fits = run1.inside.fits;
-          low = λ k m. let x = run1.inside.low k m in omega (arith, h.longer);
-        };
+        inside = inside_to;
         framed = run1.framed;
         focus = l;
-        asked = subst (λ (ks : List ModelFrame). Asks (AskedFor rs su fr) ks (term_in su (focus_place e))) (sym frames_holding)
-            (asks_steps rs (AskedFor rs su fr) (frames_in (work st q fr)) (term_in st (focus_place c)) (term_in su (focus_place e))
-            (λ d v w k a. asked_on su fr d v w k a) s
-            (asks_map (AskedFor rs st fr) (AskedFor rs su fr) (frames_in (work st q fr)) (term_in st (focus_place c))
-            (λ d u m a. asked_holding fr d u a) run1.asked));
+        asked = asked_to (term_in su (focus_place e)) s;
       }
 
   -- what a term comes to is a move

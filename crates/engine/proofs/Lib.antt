@@ -16,6 +16,7 @@ pub mod Leaving
 pub mod Turned
 pub mod Spaced
 pub mod RunningOn
+pub mod Opening
 pub mod Comparing
 pub mod Pairing
 pub mod Keeping

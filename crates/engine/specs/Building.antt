@@ -1,12 +1,13 @@
 -- Building instances of terms from their rows, from the last symbol to the first.
 use Rattle.std.specs.Prelude.{◌≡◌, ℕ, ◌+◌, ◌-◌, ◌<◌, ◌≤◌, List, length, get_or, ◌≢◌, slice_index, slice_index_or, take}
-use Rattle.rewriting.specs.Terms.{Term, letter as letter1, sign as sign1, Terms, and1, glue, count, size, put, In}
+use Rattle.rewriting.specs.Terms.{Term, letter as letter1, sign as sign1, Terms, and1, glue, count, size, put, puts, In}
 use Rattle.books.specs.declared.words.Symbol.{Symbol}
 use Rattle.books.specs.declared.words.Symbol.TheVariants.{Letter, Sign}
 use Rattle.store.specs.declared.types.Store.{Store}
 use Rattle.store.specs.declared.types.Place.{Place}
 use Rattle.store.specs.Stores.{Sound, Grown, term_in}
-use Rattle.store.specs.Transfers.{RowOf}
+use Rattle.store.specs.Making.{terms_at, PartsInside}
+use Rattle.store.specs.Transfers.{RowOf, inner}
 use Rattle.engine.specs.declared.types.Bindings.{Bindings}
 use Rattle.engine.specs.Matching.{put_in, AllInside, Bound, stacked, PlacesInside}
 
@@ -68,6 +69,22 @@ pub record SymbolBuilt (ps : List ℕ) (y : Symbol) (b : Bindings) (st : Store) 
   pub signs : SignsAdded st su
   pub inside : PlacesInside su r
   pub made : TermMade ps y b st q su r
+
+-- the parts of a term are built from its row, with what is bound put for its letters: all but its first symbol
+pub record BehindBuilt (st : Store) (b : Bindings) (t : Term) (su : Store) (q : List Place) : Type 0 where
+  pub grown : Grown st su
+  pub few : su.count + 1 ≤ st.count + size t
+  pub signs : SignsAdded st su
+  pub inside : PlacesInside su q
+  pub terms : stacked su q ≡ puts (put_in st b) (inner t)
+
+-- the places of its n parts
+pub record RowPartsBuilt (st : Store) (b : Bindings) (t : Term) (n : ℕ) (su : Store) (ps : List Place) : Type 0 where
+  pub sound : Sound su
+  pub grown : Grown st su
+  pub few : su.count ≤ st.count + size t
+  pub inside : PartsInside su ps n
+  pub terms : terms_at su ps n ≡ puts (put_in st b) (inner t)
 
 -- the place of a term that is built from its row, with what is bound put for its letters
 pub record RowInstanceBuilt (st : Store) (b : Bindings) (t : Term) (su : Store) (p : Place) : Type 0 where

@@ -1,5 +1,7 @@
 -- Rewriting at the top of a term of the store, by the first rule whose left side matches.
-use Rattle.std.specs.Prelude.{◌≡◌, ℕ, ◌+◌, ◌<◌, ◌≤◌, List, length, Some, None, Option as Maybe, ◌≢◌, slice_index}
+use Rattle.std.specs.Prelude.{◌≡◌, ℕ, ◌+◌, ◌<◌, ◌≤◌, List, length, Some, None, Option as Maybe, ◌≢◌, slice_index, ⊤}
+use Rattle.books.specs.Reading.{SymbolAt}
+use Rattle.books.specs.declared.words.Symbol.TheVariants.{Sign as SignSymbol}
 use Rattle.std.proofs.Math.Option.{some}
 use Rattle.rewriting.specs.Terms.{nth, Term, sign, Terms, put, Fits}
 use Rattle.rewriting.specs.Rules.{Eq}
@@ -31,6 +33,11 @@ pub record FirstPartsApart (ws : List ℕ) (st : Store) (p : Place) : Type 0 whe
   pub long : 4 ≤ length ws
   pub is_sign : slice_index ws 2 ≡ 1
   pub other : (us : Terms) → term_in st (part_in st p.0 0) ≢ sign (slice_index ws 3) us
+
+-- the words begin with a sign that has parts, and how many they are
+abbrev pub Opening : List ℕ → List ℕ → Maybe (ℕ × ℕ) → Type 0
+Opening ps ws (Some (g, n)) = SymbolAt ws 0 (Some (SignSymbol g)) × (n ≡ slice_index ps g) × (0 < n)
+Opening ps ws None = ⊤
 
 -- a rule with what is put for the letters of its left side, or that no rule can be used
 abbrev pub RuleFound : Book → Store → Place → Bindings → Maybe ℕ → Type 0

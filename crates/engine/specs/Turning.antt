@@ -1,5 +1,5 @@
 -- Turns of the machine: what each comes to.
-use Rattle.std.specs.Prelude.{◌≡◌, ℕ, ◌+◌, ◌-◌, ◌*◌, ◌<◌, ◌≤◌, List, length, Some, None, Option as Maybe, slice_index_or}
+use Rattle.std.specs.Prelude.{◌≡◌, ℕ, ◌+◌, ◌-◌, ◌*◌, ◌<◌, ◌≤◌, List, length, Some, None, Option as Maybe, slice_index_or, ⊤}
 use Rattle.rewriting.specs.Terms.{Term}
 use Rattle.rewriting.specs.Rules.{Eq, Steps, Done}
 use Rattle.rewriting.specs.Order.{rank, AllDown}
@@ -7,7 +7,7 @@ use Rattle.rewriting.specs.Machine.{State, Still, Move, Moves, Valid}
 use Rattle.store.specs.declared.types.Store.{Store}
 use Rattle.store.specs.declared.types.Roots.{Roots}
 use Rattle.store.specs.declared.types.Place.{Place}
-use Rattle.store.specs.Stores.{term_in, part_in, held}
+use Rattle.store.specs.Stores.{term_in, held}
 use Rattle.store.specs.Stacks.{root_in}
 use Rattle.store.specs.Roots.{HasRoots}
 use Rattle.books.specs.declared.row.Book.{Book}
@@ -16,7 +16,7 @@ use Rattle.engine.specs.declared.types.Frame.{Frame}
 use Rattle.engine.specs.declared.types.Focus.{Focus}
 use Rattle.engine.specs.declared.types.Focus.TheVariants.{Eval, Back}
 use Rattle.engine.specs.declared.work.Work.{Work}
-use Rattle.engine.specs.Frames.{frame_at}
+use Rattle.engine.specs.Frames.{frame_at, FramePushed}
 use Rattle.engine.specs.Rewriting.{ByRule}
 use Rattle.engine.specs.Running.{Running, Holding, state_in}
 
@@ -88,12 +88,29 @@ pub record TopFrame (w : Work) (k : Frame) : Type 0 where
   pub enough : k.others ≤ w.roots.top
   pub fits : HasRoots w.roots.cells.now w.roots.top
 
--- the parts but the first are roots
-pub record OthersPushed (st : Store) (q : Roots) (p n : ℕ) (r : Roots) : Type 0 where
+-- of the places ps 0, .., ps n all but the first are roots
+pub record OthersPushed (ps : ℕ → ℕ) (q : Roots) (n : ℕ) (r : Roots) : Type 0 where
   pub cells : length r.cells.now ≡ length q.cells.now
   pub top : r.top ≡ q.top + n
   pub rest : (k : ℕ) → k < q.top → root_in r k ≡ root_in q k
-  pub parts : (k : ℕ) → k < n → root_in r (q.top + k) ≡ part_in st p (k + 1)
+  pub parts : (k : ℕ) → k < n → root_in r (q.top + k) ≡ ps (k + 1)
+
+-- a known normal form, or none
+abbrev pub KnownNormal : List Eq → Store → Place → Maybe Place → Type 0
+KnownNormal rs st p (Some q) = NormalAt rs (term_in st p.0) st q
+KnownNormal rs st p None = ⊤
+
+-- the sign f is worked at, with n + 1 places for its parts
+pub record BegunAt (w : Work) (f n : ℕ) (ps : List Place) (v : Work) (c : Focus) : Type 0 where
+  pub store : v.store ≡ w.store
+  pub roots : OthersPushed (λ k. (slice_index_or ps k (record { 0 = 0 })).0) w.roots n v.roots
+  pub frames : FramePushed w.frames f n (slice_index_or ps 0 (record { 0 = 0 })) v.frames
+  pub focus : c ≡ Eval (slice_index_or ps 0 (record { 0 = 0 }))
+
+-- a turn by a rule; or no rule can be used, and nothing is changed
+abbrev pub TurnsOrStill : Book → Work → Place → Work → Maybe Focus → Type 0
+TurnsOrStill k w p v (Some c) = TurnsFrom k w (Eval p) v c
+TurnsOrStill k w p v None = Still (told k).rules (term_in w.store p.0) × (v ≡ w)
 
 -- the parts of a frame: its roots, and then v
 pub record PartsGathered (q : Roots) (from1 n : ℕ) (v : Place) (ps : List Place) : Type 0 where

@@ -1,11 +1,12 @@
 // Rewriting at the top of a term, by the first rule that matches.
 // Stays in the contracts that the rules can be used at p: it relates a book, a store and a place, which are lent apart.
 ghost use Rattle.std.specs.Prelude.{◌≡◌, ◌+◌, ◌<◌, ◌≤◌, ◌≢◌, false};
-ghost use Rattle.rewriting.specs.Terms.{Terms, sign};
+ghost use Rattle.rewriting.specs.Terms.{Term, Terms, sign};
+ghost use Rattle.store.specs.Transfers.{RowOf};
 ghost use Rattle.store.specs.Stores.{term_in, arity_in};
 ghost use Rattle.books.specs.Books.{told, rule_in};
 ghost use Rattle.engine.specs.Matching.{given, MatchedOn, nothing};
-ghost use Rattle.engine.specs.Rewriting.{Rewritable, Rewritten, RuleFound, Candidate, FirstPartsApart};
+ghost use Rattle.engine.specs.Rewriting.{Rewritable, Rewritten, RuleFound, Candidate, FirstPartsApart, Opening};
 
 use crate::instance::row_instance;
 use crate::matching::bind_pattern;
@@ -56,7 +57,12 @@ fn match_rule(
 }
 
 // The first rule whose left side matches the term at p, with what is put for its letters, by reference as at `bind_pattern`.
-fn find_rule(book: &Book, store: &Store, p: Place, bindings: &mut Bindings) -> Option<usize>
+pub(crate) fn find_rule(
+    book: &Book,
+    store: &Store,
+    p: Place,
+    bindings: &mut Bindings,
+) -> Option<usize>
     requires { Rewritable book.now store.now p }
     ensures { RuleFound book.now store.now p bindings.new result }
 {
@@ -73,6 +79,20 @@ fn find_rule(book: &Book, store: &Store, p: Place, bindings: &mut Bindings) -> O
         next = book.index.next_like(i);
     }
     None
+}
+
+// The sign at the top of a right side and how many parts it has, if it has some and no rule could be used there. It needs no slot before
+// its parts are normal forms. What is promised holds of any sign with parts: to ask for rules saves work, and is not needed for the rest.
+pub(crate) fn opening(book: &Book, right: &[u32]) -> Option<(u32, usize)>
+    requires { (t : Term) × RowOf (told book.now).parts right.now t }
+    ensures { Opening (told book.now).parts right.now result }
+{
+    // Stays `let .. else`: a symbol is an enum with data, and no Option.
+    let Some(Symbol::Sign(g)) = symbol_at(right, 0) else {
+        return None;
+    };
+    let n = book.parts()[g as usize] as usize;
+    (n > 0 && book.index.first_with(g).is_none()).then_some((g, n))
 }
 
 // What one step at the top makes of the term at p, if a rule can be used there.

@@ -2,25 +2,38 @@
 // Stays in the contracts that a turn can be taken: it relates a book, the work words and a focus, and each turn changes all but the book.
 // Stays with `book` beside `Work`: `Ready` says more than a `Reducer` keeps, and that would have to be shown honest after each write.
 // Stays in the contracts that there is space for a turn: it is so only after it was seen to, and the turn uses it up.
-ghost use Rattle.std.specs.Prelude.{◌≡◌, ◌+◌, ◌<◌, ◌≤◌};
-ghost use Rattle.rewriting.specs.Rules.{Done};
+ghost use Rattle.std.specs.Prelude.{◌≡◌, ◌+◌, ◌-◌, ◌*◌, ◌<◌, ◌≤◌, List, length, slice_index_or};
+ghost use Rattle.rewriting.specs.Rules.{Eq, Done};
 ghost use Rattle.rewriting.specs.Machine.{Still};
 ghost use Rattle.rewriting.specs.Terms.{sign};
-ghost use Rattle.store.specs.Stores.{term_in, arity_in, parts_in};
+ghost use Rattle.store.specs.Stores.{term_in, arity_in, part_in, parts_in};
 ghost use Rattle.store.specs.Stacks.{root_in};
 ghost use Rattle.store.specs.Roots.{HasRoots};
 ghost use Rattle.books.specs.Books.{told};
 ghost use Rattle.engine.specs.declared.types.Focus.TheVariants.{Eval, Back};
 ghost use Rattle.engine.specs.Rewriting.{Rewritable};
 ghost use Rattle.engine.specs.Running.{Honest};
-ghost use Rattle.engine.specs.Turning.{Advanced, Applied, OthersPushed, PartsGathered, TurnsFrom, CanTurn, TopFrame, SpaceForTurn};
+ghost use Rattle.engine.specs.Turning.{KnownNormal, Advanced, Applied, OthersPushed, PartsGathered, BegunAt, TurnsFrom, TurnsOrStill};
+ghost use Rattle.engine.specs.Turning.{CanTurn, TopFrame, SpaceForTurn};
 
-use crate::rules::rewrite;
-use crate::types::{Focus, Frame};
+use crate::instance::{row_instance, row_parts};
+use crate::rules::{find_rule, opening, rewrite};
+use crate::types::{Bindings, Focus, Frame};
 use crate::work::Work;
 use books::Book;
 use std::array;
 use store::{Node, Place, Roots, Store};
+
+// The place of the normal form of the term at p, if it is known.
+fn known(store: &Store, p: Place) -> Option<Place>
+    requires { p.0 < store.now.count }
+    ensures { (rs : List Eq) → Honest rs store.now → KnownNormal rs store.now p result }
+{
+    if store.is_normal(p) {
+        return Some(p);
+    }
+    store.note(p)
+}
 
 // What the term at p comes to at once: its normal form if that is known, or what a rule makes of it at its top.
 fn advance(book: &Book, store: &mut Store, p: Place) -> Option<Focus>
@@ -29,10 +42,7 @@ fn advance(book: &Book, store: &mut Store, p: Place) -> Option<Focus>
     requires honest { Honest (told book.now).rules store.old }
     ensures { Advanced (told book.now).rules store.old p store.new result }
 {
-    if store.is_normal(p) {
-        return Some(Focus::Back(p));
-    }
-    if let Some(q) = store.note(p) {
+    if let Some(q) = known(store, p) {
         return Some(Focus::Back(q));
     }
     let q = rewrite(book, store, p)?;
@@ -59,11 +69,21 @@ fn apply(book: &Book, store: &mut Store, p: Place) -> Focus
 fn push_others(store: &Store, roots: &mut Roots, p: Place, n: usize)
     requires parts { (p.0 < store.now.count) × (arity_in store.now p.0 ≡ n + 1) }
     requires has_roots { HasRoots roots.old.cells.now (roots.old.top + n) }
-    ensures { OthersPushed store.now roots.old p.0 n roots.new }
+    ensures { OthersPushed (λ k. part_in store.now p.0 k) roots.old n roots.new }
 {
     // Stays a loop over numbers: the store gives the parts of a sign by their numbers.
     for k in 0..n {
         roots.stack(roots.top, store.part(p, k + 1));
+    }
+}
+
+// The places are so many more roots.
+fn push_places(roots: &mut Roots, places: &[Place])
+    requires { HasRoots roots.old.cells.now (roots.old.top + length places.now) }
+    ensures { OthersPushed (λ k. (slice_index_or places.now (k - 1) (record { 0 = 0 })).0) roots.old (length places.now) roots.new }
+{
+    for &p in places {
+        roots.stack(roots.top, p);
     }
 }
 
@@ -87,6 +107,36 @@ fn gather_parts(roots: &Roots, from: usize, n: usize, v: Place) -> [Place; 4]
 }
 
 impl Work<'_> {
+    // To the first of n + 1 parts of the sign f, which stand at the places. There is no slot for the sign over them yet.
+    fn begin(&mut self, f: u32, n: usize, places: [Place; 4]) -> Focus
+        requires few { n ≤ 3 }
+        requires roots { HasRoots self.old.roots.cells.now (self.old.roots.top + 3) }
+        requires frames { 4 * (self.old.frames.depth + 1) ≤ length self.old.frames.words.now }
+        ensures { BegunAt self.old f n places self.new result }
+    {
+        push_places(&mut self.roots, &places[1..=n]);
+        self.frames.push(f, n as u32, places[0]);
+        Focus::Eval(places[0])
+    }
+
+    // To what a rule makes of the term at p, if one can be used at its top. If no rule could be used on that in turn, it is not made: only
+    // its parts are, and work goes on at the first of them.
+    fn by_rule(&mut self, book: &Book, p: Place) -> Option<Focus>
+        requires can_turn { CanTurn book.now self.old (Eval p) }
+        requires space { SpaceForTurn self.old }
+        ensures { TurnsOrStill book.now self.old p self.new result }
+    {
+        let mut bindings = Bindings::new();
+        let i = find_rule(book, &self.store, p, &mut bindings)?;
+        let right = book.rule(i).right;
+        let Some((g, n)) = opening(book, right) else {
+            let q = row_instance(book.parts(), right, &bindings, &mut self.store);
+            return Some(Focus::Eval(q));
+        };
+        let places = row_parts(book.parts(), right, n, &bindings, &mut self.store);
+        Some(self.begin(g, n - 1, places))
+    }
+
     // To the first of n + 1 parts.
     fn go_in(&mut self, p: Place, f: u32, n: usize) -> Focus
         requires inside { p.0 < self.old.store.count }
@@ -166,7 +216,10 @@ impl Work<'_> {
         requires sign { term_in self.old.store p.0 ≡ sign f (parts_in self.old.store p.0 (n + 1)) }
         ensures { TurnsFrom book.now self.old (Eval p) self.new result }
     {
-        if let Some(focus) = advance(book, &mut self.store, p) {
+        if let Some(v) = known(&self.store, p) {
+            return Focus::Back(v);
+        }
+        if let Some(focus) = self.by_rule(book, p) {
             return focus;
         }
         self.go_in(p, f, n)

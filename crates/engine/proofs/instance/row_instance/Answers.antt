@@ -1,47 +1,40 @@
--- From no symbol to the whole term.
-use Rattle.std.proofs.Common.{List, get_or, ◌∙◌, sym, subst, arith}
-use Rattle.books.specs.Reading.{SymbolAt}
+-- The parts, and then the sign over them.
+use Rattle.std.proofs.Common.{List, length, get_or, sym, ap, subst, arith}
 use Rattle.store.specs.declared.types.Place.{Place}
+use Rattle.store.proofs.Reading.{symbol_there}
 use Rattle.engine.specs.Building.{RowInstanceBuilt}
-use Rattle.engine.proofs.Builder.{built_all}
-use Rattle.engine.proofs.Chunks.{built_from, row_symbol, turn_there, built_next, built_end}
+use Rattle.engine.proofs.Builder.{first_turn, first_built, first_long}
+use Rattle.engine.proofs.Chunks.{two_words}
 use Rattle.engine.proofs.instance.row_instance.Goals as goal
-
-pub loop-pair-init : goal.loop-pair-init
-loop-pair-init c =
-    let same = c.into_iter-pair-iterator.ensures.into_iter_gives in
-    let cut = c.rchunks_exact-pair-items.ensures in (
-      rw same cut.size,
-      rw same (built_from c.requires.few_parts.0 c.requires.space.1 c.requires.few_parts.1 _ _ cut.parts cut.remainder_len _
-          c.new-built.ensures),
-    )
 
 pub unwrap-symbol-requires : goal.unwrap-symbol-requires
 unwrap-symbol-requires c =
-    let step = c.in-Some.ensures.steps.2 in
-    row_symbol c.requires.few_parts.0 c.requires.space.1 c.loop-pair.invariant.1 _ _ step.0 (step.1 ∙ c.loop-pair.invariant.0)
-    c.requires.few_parts.1 _ c.symbol_at.ensures
+    let (t, f) = c.requires.few_parts.1 in
+    symbol_there c.args.parts.now c.args.row.now t 1 f.row (omega arith) (two_words _ _ _ (t, f)) _ c.symbol_at.ensures
 
 pub build_symbol-requires-clause-buildable : goal.build_symbol-requires-clause-buildable
 build_symbol-requires-clause-buildable c =
     let (t, f) = c.requires.few_parts.1 in
-    let step = c.in-Some.ensures.steps.2 in
-    (turn_there c.requires.few_parts.0 c.requires.space.1 c.loop-pair.invariant.1 _ _ step.0 (step.1 ∙ c.loop-pair.invariant.0)
-    c.unwrap-symbol.result (subst (SymbolAt c.in-Some.pair.now 0) c.unwrap-symbol.ensures c.symbol_at.ensures) t f).can
-
-pub loop-pair-preserved : goal.loop-pair-preserved
-loop-pair-preserved c =
-    let step = c.in-Some.ensures.steps.2 in
-    let two = step.1 ∙ c.loop-pair.invariant.0 in (
-      c.in-Some.ensures.steps.0 ∙ c.loop-pair.invariant.0,
-      built_next c.requires.few_parts.0 c.requires.space.1 c.loop-pair.invariant.1 _ _ step.0 two c.unwrap-symbol.result
-          (subst (SymbolAt c.in-Some.pair.now 0) c.unwrap-symbol.ensures c.symbol_at.ensures)
-          c.build_symbol.new.store c.build_symbol.new.built.items c.build_symbol.ensures,
-    )
+    (first_turn c.args.parts.now c.args.row.now c.requires.few_parts.0 t c.args.store.now c.args.bindings.now f c.requires.space.1
+    c.build_behind-built.new.store c.build_behind-built.result.items (c.build_behind-built.ensures t f) _ c.unwrap-symbol.result
+    c.unwrap-symbol.ensures c.symbol_at.ensures).can
 
 pub returns : goal.returns
 returns c t f =
     let a = c.args.store.now in let b = c.args.bindings.now in
-    subst (λ (xs : List Place). RowInstanceBuilt a b t c.loop-pair.store (get_or xs 0 (record { 0 = 0 }))) (sym c.deref.ensures.0)
-    (built_all c.args.parts.now c.args.row.now c.requires.few_parts.0 t a b f c.requires.space.1 c.loop-pair.store c.loop-pair.built.items
-    (built_end c.loop-pair.invariant.1 (omega (arith, c.in-None.ensures.steps.2.0, c.loop-pair.invariant.0)) t f))
+    subst (λ (xs : List Place). RowInstanceBuilt a b t c.build_symbol.new.store (get_or xs 0 (record { 0 = 0 }))) (sym c.deref.ensures.0)
+    (first_built c.args.parts.now c.args.row.now c.requires.few_parts.0 t a b f c.requires.space.1
+    c.build_behind-built.new.store c.build_behind-built.result.items (c.build_behind-built.ensures t f) _ c.unwrap-symbol.result
+    c.unwrap-symbol.ensures c.symbol_at.ensures c.build_symbol.new.store c.build_symbol.new.built.items c.build_symbol.ensures)
+
+pub bounds-deref-0 : goal.bounds-deref-0
+bounds-deref-0 c =
+    let (t, f) = c.requires.few_parts.1 in
+    omega (
+      arith,
+      first_long c.args.parts.now c.args.row.now c.requires.few_parts.0 t c.args.store.now c.args.bindings.now f
+          c.requires.space.1 c.build_behind-built.new.store c.build_behind-built.result.items (c.build_behind-built.ensures t f) _
+          c.unwrap-symbol.result c.unwrap-symbol.ensures c.symbol_at.ensures c.build_symbol.new.store c.build_symbol.new.built.items
+          c.build_symbol.ensures,
+      ap length c.deref.ensures.0,
+    )

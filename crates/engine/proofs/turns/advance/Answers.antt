@@ -1,14 +1,12 @@
--- A normal form, or a rule.
-use Rattle.std.proofs.Common.{sym}
+-- A known normal form, or a rule.
 use Rattle.books.specs.Books.{told}
-use Rattle.engine.proofs.Advancing.{by_flag, by_step}
+use Rattle.engine.proofs.Advancing.{by_known, by_step}
 use Rattle.engine.proofs.turns.advance.Goals as goal
 
-pub returns-then-is_normal : goal.returns-then-is_normal
-returns-then-is_normal c =
-    by_flag (told c.args.book.now).rules c.args.store.now c.args.p c.requires.honest
-    c.requires.rewritable.inside
-    (sym c.if-is_normal.ensures)
+pub returns-in-Some : goal.returns-in-Some
+returns-in-Some c =
+    let rs = (told c.args.book.now).rules in
+    by_known rs c.args.store.now c.args.p c.in-Some.q c.requires.honest (c.in-Some.ensures rs c.requires.honest)
 
 pub returns : goal.returns
 returns c =
