@@ -33,10 +33,28 @@ use Rattle.engine.specs.declared.work.Work.{Work}
 use Rattle.engine.proofs.Pendings.{zero_place}
 use Rattle.engine.proofs.Honesty.{holding_grown}
 use Rattle.books.specs.Layouts.{FewParts}
+use Rattle.books.proofs.Building.{book_parts}
+use Rattle.books.proofs.Heads.{head_of}
+use Rattle.books.specs.Rows.{row}
+use Rattle.engine.specs.Building.{Fillable}
+use Rattle.engine.specs.Rewriting.{RuleFound}
+use Rattle.engine.specs.Turning.{Ready}
+use Rattle.engine.proofs.Trying.{right_bound, right_fillable}
+use Rattle.engine.proofs.Turned.{eval_rewritable}
 use Rattle.engine.proofs.Contexts.{work, framed_low}
 use Rattle.engine.proofs.Entering.{runs_in, moves_in, kept_in}
 use Rattle.engine.proofs.Going.{frames_holding, inside_to, asked_to}
 use Rattle.engine.proofs.RunningOn.{kept_on}
+
+-- the signature of a book, and the right side of a rule that was found, as they are wanted to build from
+pub few_of : (k : Book) (ps : List ℕ) → ps ≡ (told k).parts → FewParts ps
+few_of k ps e = book_parts k.words.now (told k) k.reads ps (e ∙ sym (head_of k.words.now (told k) k.reads).parts)
+
+module _ (k : Book) (low : ℕ) (st : Store) (q : Roots) (fr : Frames) (p : Place) (ready : Ready k low (work st q fr) (Eval p)) (i : ℕ)
+    (b : Bindings) (found : RuleFound k st p b (Some i)) where
+  pub filled : (ps ws : List ℕ) → ps ≡ (told k).parts → ws ≡ row (rule_in k i).right → Fillable ps ws b (rule_in k i).right
+  filled ps ws e w =
+      right_fillable k i found.0 ps ws b e w (right_bound k st p (eval_rewritable k low st q fr p ready) i found.0 b found.1)
 
 -- a term whose row begins with the sign g
 pub record TopSign (ps : List ℕ) (t : Term) (g : ℕ) : Type 0 where
