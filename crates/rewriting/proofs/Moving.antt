@@ -10,7 +10,7 @@ use Rattle.rewriting.specs.Order.{Rank, rank, Greater, by_part, by_sign, by_orde
 use Rattle.rewriting.specs.Books.{Book, Fine}
 use Rattle.rewriting.specs.Machine.{Frame, State, frames, focus, behind, plug, whole, start}
 use Rattle.rewriting.specs.Machine.{Still, Move, known, at_once, no_parts, go_in, go_on, go_out, known_sign, by_rule, no_rule}
-use Rattle.rewriting.specs.Machine.{Moves, rest, move, AllDone, FramesDone, FocusDone, Valid}
+use Rattle.rewriting.specs.Machine.{Moves, rest, move, LowestMoves, no_move, move_on, AllDone, FramesDone, FocusDone, Valid}
 use Rattle.rewriting.specs.MachineTheorems.{Leads, MachineSteps, MachineValid}
 use Rattle.rewriting.proofs.Comparing.{letter_not_sign}
 use Rattle.rewriting.proofs.Stepping.{trans, FromSign, by_top, from_sign, from_letter}
@@ -51,13 +51,18 @@ move_steps {rs} {x} {y} m = elim (move_whole m) [
   | inr l ↦ leads_steps l
 ]
 
-pub moves_on : {rs : List Eq} {x y z : State} → Moves rs x y → Moves rs y z → Moves rs x z
-moves_on rest k = k
-moves_on (move m ms) k = move m (moves_on ms k)
-
 pub moves_steps : {rs : List Eq} {x y : State} → Moves rs x y → Steps rs (whole x) (whole y)
 moves_steps rest = stay
 moves_steps (move m ms) = trans (move_steps m) (moves_steps ms)
+
+-- moves by the lowest-numbered rules are moves, and can be put one after another
+pub lowest_are_moves : {rs : List Eq} {x y : State} → LowestMoves rs x y → Moves rs x y
+lowest_are_moves no_move = rest
+lowest_are_moves (move_on m ms) = move m.move (lowest_are_moves ms)
+
+pub lowest_moves_on : {rs : List Eq} {x y z : State} → LowestMoves rs x y → LowestMoves rs y z → LowestMoves rs x z
+lowest_moves_on no_move k = k
+lowest_moves_on (move_on m ms) k = move_on m (lowest_moves_on ms k)
 
 pub machine_steps_lem : MachineSteps
 machine_steps_lem = record { move = λ rs x y m. move_whole m; moves = λ rs x y ms. moves_steps ms }

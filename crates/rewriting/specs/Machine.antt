@@ -1,5 +1,5 @@
 -- A machine that brings terms to normal form: a stack of frames, and a focus that is worked at.
-use Rattle.std.specs.Prelude.{◌≡◌, ◌⊎◌, List, [], ◌∷◌, ℕ, suc, ◌+◌, ◌≤◌, length}
+use Rattle.std.specs.Prelude.{◌≡◌, ◌⊎◌, List, [], ◌∷◌, ℕ, suc, ◌+◌, ◌<◌, ◌≤◌, length}
 use Rattle.std.proofs.Math.Option.{Option, some, none}
 use Rattle.rewriting.specs.Terms.{nth, Term, sign, Terms, none1, and1, put, count, glue, Fits}
 use Rattle.rewriting.specs.Rules.{Eq, Steps, Done}
@@ -55,6 +55,10 @@ finished v = state [] (back v)
 abbrev pub Still : List Eq → Term → Type 0
 Still rs t = (i : ℕ) (r : Eq) → nth rs i ≡ some r → (s : ℕ → Term) → put s r.left ≡ t → ⊥
 
+-- none of the rules before rule i can be used at the top of t
+abbrev pub StillBefore : List Eq → ℕ → Term → Type 0
+StillBefore rs i t = (j : ℕ) (r : Eq) → j < i → nth rs j ≡ some r → (s : ℕ → Term) → put s r.left ≡ t → ⊥
+
 -- one move. Which rule is used, whether at once or when the parts are done, and where a known normal form is taken, is left open
 pub data Move (rs : List Eq) : State → State → Type 0 where
   -- its normal form is known: it is one itself, or the normal form is remembered
@@ -81,6 +85,23 @@ pub data Move (rs : List Eq) : State → State → Type 0 where
 pub data Moves (rs : List Eq) : State → State → Type 0 where
   rest : {x : State} → Moves rs x x
   move : {x y z : State} → Move rs x y → Moves rs y z → Moves rs x z
+
+-- if a move is by a rule, it is by the lowest-numbered one that can be used there. Nothing is said of other moves: not how a known normal
+-- form was come to
+abbrev pub ByLowest : {rs : List Eq} {x y : State} → Move rs x y → Type 0
+ByLowest {rs} (at_once {t = t} i r s e is) = StillBefore rs i t
+ByLowest {rs} (by_rule {f = f} {ts = ts} i r s e is) = StillBefore rs i (sign f ts)
+ByLowest m = Unit {0}
+
+-- such a move
+pub record LowestMove (rs : List Eq) (x y : State) : Type 0 where
+  pub move : Move rs x y
+  pub lowest : ByLowest move
+
+-- any number of them
+pub data LowestMoves (rs : List Eq) : State → State → Type 0 where
+  no_move : {x : State} → LowestMoves rs x x
+  move_on : {x y z : State} → LowestMove rs x y → LowestMoves rs y z → LowestMoves rs x z
 
 -- what stays true: the whole is over the signature, and what should be done is
 abbrev pub AllDone : List Eq → Terms → Type 0
