@@ -4,6 +4,7 @@ use Rattle.std.proofs.Common.{subst, arith}
 use native.Mathlib.Decide.{dec_lt}
 use Rattle.rewriting.specs.Terms.{Term, size, Fits, SmallLetter}
 use Rattle.rewriting.specs.Rules.{Steps, stay, Done}
+use Rattle.rewriting.specs.Machine.{whole}
 use Rattle.rewriting.specs.Different.{different, listed}
 use Rattle.rewriting.proofs.Different.{different_size}
 use Rattle.rewriting.specs.Order.{rank, AllDown}
@@ -22,7 +23,7 @@ use Rattle.store.specs.declared.types.Full.{Full}
 use Rattle.store.specs.declared.types.Full.TheVariants.{NoSlot, NoRoot}
 use Rattle.store.specs.declared.types.Short.{Short}
 use Rattle.store.specs.declared.types.Short.TheVariants.{NoWord, NoCell}
-use Rattle.store.specs.Stores.{Inside, held}
+use Rattle.store.specs.Stores.{held}
 use Rattle.store.specs.Transfers.{RowOf, Read, WrittenOrShort}
 use Rattle.order.specs.declared.terminating.Terminating.{Terminating}
 use Rattle.order.specs.Downward.{GoesDown, FirstUp}
@@ -133,10 +134,11 @@ module _ (k : Book) (ts : List ℕ) (w : Work) (b : Store) (r : Roots) where
 
     pub stopped : (v : Work) (e : NoRoom) → Normalized k loaded v (Err e) → (n : ℕ) → Ample n w → Outgrown (told k) ts n
     stopped v e x n m =
-        let (u, s, want) = x.result.1 in
+        let out = x.result.1 in
+        let u = whole out.at_last in
         wanting (told k) ts d.term d.of n b.room (length w.frames.words.now) (length r.cells.now) (r.top - 1) (λ j. held b r j) u
         (omega (arith, top_one)) (omega (arith, m.slots, d.read.room)) m.words (omega (arith, m.cells, d.read.roots.long))
-        (subst (λ (x : Term). Steps (told k).rules x u) held_top s) want
+        (subst (λ (x : Term). Steps (told k).rules x u) held_top out.steps) out.wanting
 
     module _ (v : Work) (x : Normalized k loaded v (Ok tt)) where
       pub cells_long : (n : ℕ) → Ample n w → 6 * n + 256 ≤ length v.roots.cells.now
@@ -148,12 +150,12 @@ module _ (k : Book) (ts : List ℕ) (w : Work) (b : Store) (r : Roots) where
       pub normal : NormalForm (told k) ts (held v.store v.roots 0)
       normal =
           let z : r.top - 1 ≡ 0 = omega (arith, top_one) in
-          let s = subst (λ (y : Term). Steps (told k).rules y (held v.store v.roots (r.top - 1))) held_top x.result.1 in
+          let s = subst (λ (y : Term). Steps (told k).rules y (held v.store v.roots (r.top - 1))) held_top x.result.1.steps in
           record {
             term = d.term;
             of = d.of;
             steps = subst (λ (j : ℕ). Steps (told k).rules d.term (held v.store v.roots j)) z s;
-            done = subst (λ (j : ℕ). Done (told k).rules (held v.store v.roots j)) z x.result.2;
+            done = subst (λ (j : ℕ). Done (told k).rules (held v.store v.roots j)) z x.result.1.done;
           }
 
 -- a row that can't be written

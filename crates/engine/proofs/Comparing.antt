@@ -6,6 +6,7 @@ use Rattle.std.proofs.lemmas.Bool.{false≢true}
 use native.Mathlib.Decide.{dec_lt}
 use Rattle.rewriting.specs.Terms.{Term, Fits}
 use Rattle.rewriting.specs.Rules.{Eq, Steps, stay, Done}
+use Rattle.rewriting.specs.Machine.{whole}
 use Rattle.rewriting.specs.Different.{different, listed, PartOf, of_first, of_later}
 use Rattle.rewriting.proofs.Different.{different_both}
 use Rattle.store.specs.declared.types.Roots.{Roots}
@@ -55,10 +56,10 @@ module _ (b : Book) (w : Work) where
   module _ (v : Work) where
     -- the upper root's normal form, with the lower one kept
     pub steps_upper : w.roots.top ≡ 2 → Normalized b w v (Ok tt) → Steps rs (root_term w 1) (root_term v 1)
-    steps_upper e n = subst (λ (k : ℕ). Steps rs (root_term w k) (root_term v k)) (omega (arith, e)) n.result.1
+    steps_upper e n = subst (λ (k : ℕ). Steps rs (root_term w k) (root_term v k)) (omega (arith, e)) n.result.1.steps
 
     pub done_upper : w.roots.top ≡ 2 → Normalized b w v (Ok tt) → Done rs (root_term v 1)
-    done_upper e n = subst (λ (k : ℕ). Done rs (root_term v k)) (omega (arith, e)) n.result.2
+    done_upper e n = subst (λ (k : ℕ). Done rs (root_term v k)) (omega (arith, e)) n.result.1.done
 
     pub lower_kept : {x : _} → w.roots.top ≡ 2 → Normalized b w v x → root_term v 0 ≡ root_term w 0
     lower_kept e n = n.terms 0 (omega (arith, e))
@@ -67,8 +68,10 @@ module _ (b : Book) (w : Work) where
     pub no_room : {e : NoRoom} (n : ℕ) → w.roots.top ≡ 2 → Normalized b w v (Err e) → Ample n w →
         ((v : Term) × Steps rs (root_term w 1) v × (n < different (v ∷ []))) ⊎ (n < different (root_term w 0 ∷ []))
     no_room n e h a = elim
-        (one_large n (w.roots.top - 1) w (root_term w) h.result.1.0 a (omega (arith, e)) h.result.1.2) [
-          | inl l ↦ inl (h.result.1.0, subst (λ (k : ℕ). Steps rs (root_term w k) h.result.1.0) (omega (arith, e)) h.result.1.1, l)
+        (one_large n (w.roots.top - 1) w (root_term w) (whole h.result.1.at_last) a (omega (arith, e)) h.result.1.wanting) [
+          | inl l ↦
+              let u = whole h.result.1.at_last in
+              inl (u, subst (λ (k : ℕ). Steps rs (root_term w k) u) (omega (arith, e)) h.result.1.steps, l)
           | inr l ↦ inr l
         ]
 

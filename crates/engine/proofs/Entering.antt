@@ -5,7 +5,7 @@ use Rattle.std.proofs.lemmas.Option.{none-some}
 use native.Mathlib.Decide.{dec_lt}
 use Rattle.rewriting.specs.Terms.{Term, sign, Terms, none1, and1}
 use Rattle.rewriting.specs.Rules.{Eq, Steps, stay}
-use Rattle.rewriting.specs.Machine.{frame, eval, state, Move, go_in, rest}
+use Rattle.rewriting.specs.Machine.{frame, eval, state, go_in, LowestMove, no_move}
 use Rattle.rewriting.specs.Machine.{Frame as ModelFrame}
 use Rattle.store.specs.declared.types.Store.{Store}
 use Rattle.store.specs.declared.types.Roots.{Roots}
@@ -135,10 +135,11 @@ module _ (rs : List Eq) (low : ℕ) (st : Store) (q : Roots) (fr : Frames) (u : 
     asked = subst (λ (ls : List ModelFrame). Asks (AskedFor rs st gr) ls t0) (sym frames_are) asked;
   }
 
-  pub moves_in : Move rs (state ks (eval u)) (state_in (work st r gr) (Eval first))
+  pub moves_in : LowestMove rs (state ks (eval u)) (state_in (work st r gr) (Eval first))
   moves_in =
-      subst (λ (ls : List ModelFrame). Move rs (state ks (eval u)) (state ls (eval t0))) (sym frames_are)
-      (subst (λ (t : Term). Move rs (state ks (eval t)) (state (frame f none1 ts ∷ ks) (eval t0))) (sym parts_are) go_in)
+      subst (λ (ls : List ModelFrame). LowestMove rs (state ks (eval u)) (state ls (eval t0))) (sym frames_are)
+      (subst (λ (t : Term). LowestMove rs (state ks (eval t)) (state (frame f none1 ts ∷ ks) (eval t0))) (sym parts_are)
+      (record { move = go_in; lowest = tt }))
 
   pub kept_in : KeptBelow low (work st q fr) (work st r gr)
   kept_in = record {
@@ -171,7 +172,7 @@ module _ (rs : List Eq) (low : ℕ) (st : Store) (q : Roots) (fr : Frames) (p : 
       state_in (work st r gr) (Eval first),
       moves_in rs low st q fr (term_in st p.0) ps f n first r gr run1.honest run1.inside run1.framed run1.asked few parts_of at there
           space.roots o k,
-      rest,
+      no_move,
     );
     kept = kept_in rs low st q fr (term_in st p.0) ps f n first r gr run1.honest run1.inside run1.framed run1.asked few parts_of at there
         space.roots o k;

@@ -2,7 +2,7 @@
 use Rattle.std.proofs.Common.{◌≡◌, ℕ, ◌<◌, ◌≤◌, List, [], sym, refl, ap, ◌∙◌, subst, ap₂, arith}
 use Rattle.rewriting.specs.Terms.{Term, sign, Terms}
 use Rattle.rewriting.specs.Rules.{Eq, Steps, stay}
-use Rattle.rewriting.specs.Machine.{eval, back, apply, state, Move, known, at_once, known_sign, by_rule, Moves, rest}
+use Rattle.rewriting.specs.Machine.{eval, back, apply, state, known, at_once, known_sign, by_rule, LowestMove, LowestMoves, no_move}
 use Rattle.rewriting.specs.Machine.{Frame as ModelFrame}
 use Rattle.rewriting.proofs.Stepping.{trans}
 use Rattle.rewriting.proofs.Moving.{move_steps}
@@ -74,21 +74,21 @@ module _ (rs : List Eq) where
   comes_inside t su (Back q) b = b.inside
 
   pub comes_move : (ks : List ModelFrame) (t : Term) (su : Store) (e : Focus) → ComesTo rs t su e →
-      Move rs (state ks (eval t)) (state ks (focus_of su e))
+      LowestMove rs (state ks (eval t)) (state ks (focus_of su e))
   comes_move ks t su (Eval q) b =
-      subst (λ (u : Term). Move rs (state ks (eval t)) (state ks (eval u))) (sym b.right)
-      (at_once b.index b.rule b.filling b.has b.left)
-  comes_move ks t su (Back q) b = known b.steps b.done
+      subst (λ (u : Term). LowestMove rs (state ks (eval t)) (state ks (eval u))) (sym b.right)
+      (record { move = at_once b.index b.rule b.filling b.has b.left; lowest = b.first })
+  comes_move ks t su (Back q) b = record { move = known b.steps b.done; lowest = tt }
 
   pub comes_apply : (ks : List ModelFrame) (f : ℕ) (ts : Terms) (su : Store) (e : Focus) → ComesTo rs (sign f ts) su e →
-      Move rs (state ks (apply f ts)) (state ks (focus_of su e))
+      LowestMove rs (state ks (apply f ts)) (state ks (focus_of su e))
   comes_apply ks f ts su (Eval q) b =
-      subst (λ (u : Term). Move rs (state ks (apply f ts)) (state ks (eval u))) (sym b.right)
-      (by_rule b.index b.rule b.filling b.has b.left)
-  comes_apply ks f ts su (Back q) b = known_sign b.steps b.done
+      subst (λ (u : Term). LowestMove rs (state ks (apply f ts)) (state ks (eval u))) (sym b.right)
+      (record { move = by_rule b.index b.rule b.filling b.has b.left; lowest = b.first })
+  comes_apply ks f ts su (Back q) b = record { move = known_sign b.steps b.done; lowest = tt }
 
   pub comes_steps : (t : Term) (su : Store) (e : Focus) → ComesTo rs t su e → Steps rs t (term_in su (focus_place e))
-  comes_steps t su (Eval q) b = move_steps (comes_move [] t su (Eval q) b)
+  comes_steps t su (Eval q) b = move_steps (comes_move [] t su (Eval q) b).move
   comes_steps t su (Back q) b = b.steps
 
   -- a turn that changes the focus only
@@ -102,9 +102,9 @@ module _ (rs : List Eq) where
         running = running_to st su h low q fr (Eval p) r e (comes_inside t su e b) (comes_steps t su e b);
         goes = (
           state_in (work su q fr) e,
-          subst (λ (x : List ModelFrame). Move rs (state ks (eval t)) (state x (focus_of su e)))
+          subst (λ (x : List ModelFrame). LowestMove rs (state ks (eval t)) (state x (focus_of su e)))
               (sym (frames_holding st su h low q fr (Eval p) r)) (comes_move ks t su e b),
-          rest,
+          no_move,
         );
         kept = record {
           room = h.room;
@@ -132,7 +132,7 @@ module _ (rs : List Eq) where
         goes = (
           t.goes.0,
           t.goes.1,
-          subst (Moves rs t.goes.0) (ap₂ state (sym (frames_holding su sv h low r gr e x)) (sym (focus_holding su sv h e x.focus)))
+          subst (LowestMoves rs t.goes.0) (ap₂ state (sym (frames_holding su sv h low r gr e x)) (sym (focus_holding su sv h e x.focus)))
               t.goes.2,
         );
         kept = record {

@@ -2,7 +2,7 @@
 use Rattle.std.proofs.Common.{◌≡◌, ℕ, suc, ◌+◌, ◌-◌, ◌<◌, List, ◌∷◌, length, get_or, sym, ap, ◌∙◌, subst, ap₂, arith}
 use Rattle.rewriting.specs.Terms.{Term, sign, Terms, none1, Fits}
 use Rattle.rewriting.specs.Rules.{Eq, Done}
-use Rattle.rewriting.specs.Machine.{frame, back, apply, state, behind, Still, Move, go_out, Moves, rest, move, Valid}
+use Rattle.rewriting.specs.Machine.{frame, back, apply, state, behind, Still, go_out, LowestMove, LowestMoves, no_move, move_on, Valid}
 use Rattle.rewriting.specs.Machine.{Frame as ModelFrame}
 use Rattle.rewriting.proofs.Framing.{plug_fits}
 use Rattle.rewriting.proofs.Moving.{move_valid, sign_done}
@@ -66,12 +66,13 @@ module _ (b : Book) (low : ℕ) (st : Store) (q : Roots) (fr : Frames) (v : Plac
         ap (λ (m : ℕ). frames_of g fr.words.now m q.top) (depth_more rs low st q fr v ready.running pos)
         ∙ ap (λ (n : ℕ). frame x.sign bs (run g (a + x.done) n) ∷ ks) z
 
-    out : Move rs (state_in (work st q fr) (Back v)) (state ks (apply x.sign (behind bs tv)))
+    out : LowestMove rs (state_in (work st q fr) (Back v)) (state ks (apply x.sign (behind bs tv)))
     out =
-        subst (λ (ls : List ModelFrame). Move rs (state ls (back tv)) (state ks (apply x.sign (behind bs tv)))) (sym frames_were) go_out
+        subst (λ (ls : List ModelFrame). LowestMove rs (state ls (back tv)) (state ks (apply x.sign (behind bs tv)))) (sym frames_were)
+        (record { move = go_out; lowest = tt })
 
     valid : Valid (told b) (state ks (apply x.sign (behind bs tv)))
-    valid = move_valid (told b) b.reads.fine ready.down out ready.valid
+    valid = move_valid (told b) b.reads.fine ready.down out.move ready.valid
 
     module _ (ps : List Place) (su : Store) (p : Place) (parts : PartsGathered q a x.others v ps)
         (shared : SignShared st x.sign ps (x.others + 1) su p) where
@@ -167,8 +168,8 @@ module _ (b : Book) (low : ℕ) (st : Store) (q : Roots) (fr : Frames) (v : Plac
           goes = (
             state ks (apply x.sign (behind bs tv)),
             out,
-            subst (λ (ls : List ModelFrame). Moves rs (state ks (apply x.sign (behind bs tv))) (state ls (focus_of sv e)))
-                (sym frames_are) (move (comes_apply rs ks x.sign (behind bs tv) sv e comes) rest),
+            subst (λ (ls : List ModelFrame). LowestMoves rs (state ks (apply x.sign (behind bs tv))) (state ls (focus_of sv e)))
+                (sym frames_are) (move_on (comes_apply rs ks x.sign (behind bs tv) sv e comes) no_move),
           );
           kept = record {
             room = hold.room;

@@ -22,7 +22,7 @@ use Rattle.store.specs.declared.types.Place.{Place}
 use Rattle.store.specs.Stores.{term_in}
 use Rattle.engine.specs.declared.types.Bindings.{Bindings}
 use Rattle.engine.specs.Matching.{bound, Agrees, term_or, put_in, AllInside, Bound, BoundNow, nothing}
-use Rattle.engine.specs.Matching.{Extended, MatchedOn, Pattern}
+use Rattle.engine.specs.Matching.{Instance, Extended, MatchedOn, Pattern}
 use Rattle.engine.specs.Matching.{stacked, PlacesInside, Pushed, PartsPending}
 use Rattle.engine.specs.Matching.{MatchingWith, Matching, Turned}
 use Rattle.engine.proofs.Pendings.{one_more, stacked_more, inside_below, inside_last}
@@ -322,6 +322,14 @@ all_agree st b x r k = ap (term_or st x) k
 -- not matched from no bindings on
 pub none_first : (st : Store) (l t : Term) → MatchedOn st nothing l t None → (s : ℕ → Term) → put s l ≢ t
 none_first st l t m s e = m s (λ x r k. absurd (unbound x r k)) e
+
+-- what is bound from nothing on makes the pattern the term
+pub instance_first : (st : Store) (l t : Term) (b : Bindings) → MatchedOn st nothing l t (Some b) → Instance st b l t
+instance_first st l t b m = record {
+  is = (m.enough (put_in st b) (λ x q e. ap (term_or st x) e)).1;
+  letters = λ x h. m.letters x (inr h);
+  inside = m.inside;
+}
 
 -- one place on none
 pub only_one : (q r : List Place) (p : Place) → q ≡ [] → r ≡ q ++ p ∷ [] → r ≡ p ∷ []

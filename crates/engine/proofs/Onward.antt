@@ -3,7 +3,7 @@ use Rattle.std.proofs.Common.{◌≡◌, ℕ, suc, ◌+◌, ◌-◌, ◌<◌, Li
 use native.Mathlib.Decide.{ℕ_discrete}
 use Rattle.rewriting.specs.Terms.{Term, Terms, and1}
 use Rattle.rewriting.specs.Rules.{Eq}
-use Rattle.rewriting.specs.Machine.{frame, eval, back, state, around, behind, Move, go_on, rest}
+use Rattle.rewriting.specs.Machine.{frame, eval, back, state, around, behind, go_on, LowestMove, no_move}
 use Rattle.rewriting.specs.Machine.{Frame as ModelFrame}
 use Rattle.rewriting.proofs.Framing.{around_behind}
 use Rattle.store.specs.declared.types.Store.{Store}
@@ -153,10 +153,10 @@ module _ (rs : List Eq) (low : ℕ) (st : Store) (q : Roots) (fr : Frames) (v : 
       running = running;
       goes = (
         state_in (work st r gr) (Eval next),
-        subst (λ (ls : List ModelFrame). Move rs (state ls (back tv)) (state (frames_in (work st r gr)) (eval tn))) (sym frames_were)
-            (subst (λ (ls : List ModelFrame). Move rs (state (frame x.sign bs (and1 tn ts) ∷ ks) (back tv)) (state ls (eval tn)))
-            (sym frames_are) go_on),
-        rest,
+        subst (λ (ls : List ModelFrame). LowestMove rs (state ls (back tv)) (state (frames_in (work st r gr)) (eval tn))) (sym frames_were)
+            (subst (λ (ls : List ModelFrame). LowestMove rs (state (frame x.sign bs (and1 tn ts) ∷ ks) (back tv)) (state ls (eval tn)))
+            (sym frames_are) (record { move = go_on; lowest = tt })),
+        no_move,
       );
       kept = record {
         room = refl;

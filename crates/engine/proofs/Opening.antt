@@ -2,7 +2,7 @@
 use Rattle.std.proofs.Common.{◌≡◌, ℕ, suc, [], ◌+◌, ◌-◌, ◌<◌, ◌≤◌, List, length, get_or, sym, refl, ap, ◌∙◌, subst, Some, arith}
 use Rattle.rewriting.specs.Terms.{Term, letter, sign, Terms, count, put, puts}
 use Rattle.rewriting.specs.Rules.{Eq}
-use Rattle.rewriting.specs.Machine.{eval, state, Move, at_once, move, rest}
+use Rattle.rewriting.specs.Machine.{eval, state, at_once, LowestMove, no_move, move_on}
 use Rattle.rewriting.specs.Machine.{Frame as ModelFrame}
 use Rattle.rewriting.proofs.Moving.{move_steps}
 use Rattle.books.specs.Reading.{SymbolAt}
@@ -23,7 +23,7 @@ use Rattle.engine.specs.declared.types.Bindings.{Bindings}
 use Rattle.engine.specs.declared.types.Frames.{Frames}
 use Rattle.engine.specs.declared.types.Focus.TheVariants.{Eval}
 use Rattle.engine.specs.Frames.{FramePushed}
-use Rattle.engine.specs.Matching.{put_in, Instance}
+use Rattle.engine.specs.Matching.{put_in}
 use Rattle.engine.specs.Building.{RowPartsBuilt}
 use Rattle.engine.specs.Running.{frames_in, state_in, Running, Holding, Asks, AskedFor}
 use Rattle.engine.specs.Turning.{TurnedTo, OthersPushed, BegunAt}
@@ -37,7 +37,7 @@ use Rattle.books.proofs.Building.{book_parts}
 use Rattle.books.proofs.Heads.{head_of}
 use Rattle.books.specs.Rows.{row}
 use Rattle.engine.specs.Building.{Fillable}
-use Rattle.engine.specs.Rewriting.{RuleFound}
+use Rattle.engine.specs.Rewriting.{LowestRule, RuleFound}
 use Rattle.engine.specs.Turning.{Ready}
 use Rattle.engine.proofs.Trying.{right_bound, right_fillable}
 use Rattle.engine.proofs.Turned.{eval_rewritable}
@@ -54,7 +54,7 @@ module _ (k : Book) (low : ℕ) (st : Store) (q : Roots) (fr : Frames) (p : Plac
     (b : Bindings) (found : RuleFound k st p b (Some i)) where
   pub filled : (ps ws : List ℕ) → ps ≡ (told k).parts → ws ≡ row (rule_in k i).right → Fillable ps ws b (rule_in k i).right
   filled ps ws e w =
-      right_fillable k i found.0 ps ws b e w (right_bound k st p (eval_rewritable k low st q fr p ready) i found.0 b found.1)
+      right_fillable k i found.low ps ws b e w (right_bound k st p (eval_rewritable k low st q fr p ready) i found.low b found.fits)
 
 -- a term whose row begins with the sign g
 pub record TopSign (ps : List ℕ) (t : Term) (g : ℕ) : Type 0 where
@@ -72,15 +72,15 @@ top_sign ps ws (sign f ts) w g s =
 
 module _ (rs : List Eq) (low : ℕ) (st su : Store) (q : Roots) (fr : Frames) (p : Place) (run1 : Running rs low (work st q fr) (Eval p))
     (h : Holding rs st su) (u : Term)
-    (step : (ks : List ModelFrame) → Move rs (state ks (eval (term_in st p.0))) (state ks (eval u))) (ps : ℕ → ℕ) (f n : ℕ) (first : Place)
-    (r : Roots) (gr : Frames) (few : n ≤ 3) (is : u ≡ sign f (parts_by (λ j. term_in su j) ps 0 (suc n))) (at : first.0 ≡ ps 0)
-    (there : (k : ℕ) → k ≤ n → ps k < su.count) (space : HasRoots q.cells.now (q.top + 3)) (o : OthersPushed ps q n r)
-    (k : FramePushed fr f n first gr) where
+    (step : (ks : List ModelFrame) → LowestMove rs (state ks (eval (term_in st p.0))) (state ks (eval u)))
+    (ps : ℕ → ℕ) (f n : ℕ) (first : Place) (r : Roots) (gr : Frames) (few : n ≤ 3)
+    (is : u ≡ sign f (parts_by (λ j. term_in su j) ps 0 (suc n))) (at : first.0 ≡ ps 0) (there : (k : ℕ) → k ≤ n → ps k < su.count)
+    (space : HasRoots q.cells.now (q.top + 3)) (o : OthersPushed ps q n r) (k : FramePushed fr f n first gr) where
   inside1 : Inside su q
   inside1 = inside_to rs st su h low q fr (Eval p) run1
 
   asked1 : Asks (AskedFor rs su fr) (frames_in (work su q fr)) u
-  asked1 = asked_to rs st su h low q fr (Eval p) run1 u (move_steps (step []))
+  asked1 = asked_to rs st su h low q fr (Eval p) run1 u (move_steps (step []).move)
 
   pub opened : TurnedTo rs low (work st q fr) (Eval p) (work su r gr) (Eval first)
   opened = record {
@@ -89,9 +89,9 @@ module _ (rs : List Eq) (low : ℕ) (st su : Store) (q : Roots) (fr : Frames) (p
     goes = (
       state (frames_in (work st q fr)) (eval u),
       step (frames_in (work st q fr)),
-      move (subst (λ (ls : List ModelFrame). Move rs (state ls (eval u)) (state_in (work su r gr) (Eval first)))
+      move_on (subst (λ (ls : List ModelFrame). LowestMove rs (state ls (eval u)) (state_in (work su r gr) (Eval first)))
           (frames_holding rs st su h low q fr (Eval p) run1)
-          (moves_in rs low su q fr u ps f n first r gr h.honest inside1 run1.framed asked1 few is at there space o k)) rest,
+          (moves_in rs low su q fr u ps f n first r gr h.honest inside1 run1.framed asked1 few is at there space o k)) no_move,
     );
     kept = kept_on low (work st q fr) (work su q fr) (work su r gr)
         (record {
@@ -120,7 +120,7 @@ module _ (ps ws : List ℕ) (t : Term) (w : RowOf ps ws t) (g n : ℕ) (o : Open
 
 -- rule i of a book is used, and its right side begins with the sign g of n parts
 module _ (k : Book) (low : ℕ) (st : Store) (q : Roots) (fr : Frames) (p : Place) (run1 : Running (told k).rules low (work st q fr) (Eval p))
-    (i : ℕ) (small : i < length (told k).rules) (b : Bindings) (m : Instance st b (rule_in k i).left (term_in st p.0)) (ws : List ℕ) (g n : ℕ)
+    (i : ℕ) (b : Bindings) (found : LowestRule k st p b i) (ws : List ℕ) (g n : ℕ)
     (w : RowOf (told k).parts ws (rule_in k i).right) (op : Opening (told k).parts ws (Some (g, n))) (four : n ≤ 4) (su : Store)
     (places : List Place) (made : RowPartsBuilt st b (rule_in k i).right n su places) (space : HasRoots q.cells.now (q.top + 3)) (v : Work)
     (c : Focus) (begun : BegunAt (work su q fr) g (n - 1) places v c) where
@@ -141,11 +141,14 @@ module _ (k : Book) (low : ℕ) (st : Store) (q : Roots) (fr : Frames) (p : Plac
       opening_is (told k).parts ws (rule_in k i).right w g n op s ∙ ap (sign g) (sym made.terms)
       ∙ ap (λ (l : ℕ). sign g (parts_by (λ j. term_in su j) at_place 0 l)) one_more
 
+  used : (ks : List ModelFrame) → LowestMove rs (state ks (eval (term_in st p.0))) (state ks (eval (put s (rule_in k i).right)))
+  used ks = record { move = at_once i (rule_in k i) s (is_rule k (sound_book_in k) i found.low) found.fits.is; lowest = found.first }
+
   turned : TurnedTo rs low (work st q fr) (Eval p) (work su v.roots v.frames) (Eval (get_or places 0 zero_place))
   turned =
       opened rs low st su q fr p run1 (holding_grown rs st su run1.honest made.sound made.grown) (put s (rule_in k i).right)
-      (λ ks. at_once i (rule_in k i) s (is_rule k (sound_book_in k) i small) m.is) at_place g (n - 1) (get_or places 0 zero_place)
-      v.roots v.frames (omega arith) right_is refl (λ j l. made.inside j (omega (arith, op.2))) space begun.roots begun.frames
+      used at_place g (n - 1) (get_or places 0 zero_place) v.roots v.frames (omega arith) right_is refl
+      (λ j l. made.inside j (omega (arith, op.2))) space begun.roots begun.frames
 
   pub by_opening : TurnedTo rs low (work st q fr) (Eval p) v c
   by_opening =

@@ -2,13 +2,12 @@
 use Rattle.std.proofs.Common.{◌≡◌, ℕ, ◌+◌, ◌-◌, ◌<◌, List, [], ◌∷◌, length, Ok, Err, sym, refl, ap, ◌∙◌, subst, ap₂, arith}
 use native.Mathlib.Decide.{ℕ_discrete}
 use Rattle.rewriting.specs.Terms.{Term}
-use Rattle.rewriting.specs.Rules.{Eq, Steps, stay, Done}
+use Rattle.rewriting.specs.Rules.{Eq, Done}
 use Rattle.rewriting.specs.Order.{rank, AllDown}
 use Rattle.rewriting.specs.Different.{different, listed}
-use Rattle.rewriting.specs.Machine.{State, state, eval, back, whole, move, Valid}
+use Rattle.rewriting.specs.Machine.{State, state, eval, back, whole, start, finished, LowestMoves, no_move, move_on, Valid}
 use Rattle.rewriting.specs.Machine.{Frame as ModelFrame}
-use Rattle.rewriting.proofs.Stepping.{trans}
-use Rattle.rewriting.proofs.Moving.{moves_steps, moves_valid, move_fits, start_valid}
+use Rattle.rewriting.proofs.Moving.{lowest_are_moves, lowest_moves_on, moves_steps, moves_valid, move_fits, start_valid}
 use Rattle.rewriting.proofs.Costing.{cost, cost_falls, moves_fall}
 use Rattle.rewriting.proofs.Different.{listed_same}
 use Rattle.store.specs.declared.types.Store.{Store}
@@ -29,7 +28,7 @@ use Rattle.engine.specs.Turning.{Goes, Ready, KeptBelow, TurnedTo}
 use Rattle.engine.specs.Spacing.{Wanting, few_slots, few_words, few_cells, Halted, WithSpace, Went, Ended}
 use Rattle.engine.specs.declared.types.NoRoom.{NoRoom}
 use Rattle.engine.specs.declared.work.Work.{Work}
-use Rattle.engine.specs.Normal.{Startable, Normalized}
+use Rattle.engine.specs.Normal.{Startable, Finishes, Normalized}
 use Rattle.engine.proofs.Contexts.{work}
 
 pub kept_on : (low : ℕ) (a b c : Work) → KeptBelow low a b → KeptBelow low b c → KeptBelow low a c
@@ -71,7 +70,7 @@ module _ (b : Book) (low : ℕ) where
         ready = record {
           down = ready.down;
           running = t.running;
-          valid = moves_valid (told b) b.reads.fine ready.down (move t.goes.1 t.goes.2) now1.valid;
+          valid = moves_valid (told b) b.reads.fine ready.down (lowest_are_moves (move_on t.goes.1 t.goes.2)) now1.valid;
         };
         goes = subst (λ (y : State). Goes rs y (state_in u x)) s.same t.goes;
         kept = kept_on low w v u s.kept t.kept;
@@ -82,24 +81,24 @@ module _ (b : Book) (low : ℕ) where
       v.frames.depth ≡ 0 → Ended b low w c v p
   ended w c v p ready s d = record { ready = ready_on w c v (Back p) ready s; same = s.same; depth = d; kept = s.kept }
 
-  -- so far, from a first state of the whole t
-  pub record Underway (w : Work) (t : Term) (v : Work) (e : Focus) : Type 0 where
+  -- so far, from a first state
+  pub record Underway (w : Work) (x : State) (v : Work) (e : Focus) : Type 0 where
     pub ready : Ready b low v e
-    pub steps : Steps rs t (whole (state_in v e))
+    pub moves : LowestMoves rs x (state_in v e)
     pub kept : KeptBelow low w v
 
-  pub under_way : (w : Work) (c : Focus) → Ready b low w c → Underway w (whole (state_in w c)) w c
+  pub under_way : (w : Work) (c : Focus) → Ready b low w c → Underway w (state_in w c) w c
   under_way w c ready = record {
     ready = ready;
-    steps = stay;
+    moves = no_move;
     kept = record { room = refl; cells = refl; words = refl; terms = λ k l. refl };
   }
 
-  module _ (w : Work) (t : Term) (v : Work) (e : Focus) (u : Underway w t v e) (z : Work) where
-    pub further : (x : Focus) → Went b low v e z x → Underway w t z x
+  module _ (w : Work) (from1 : State) (v : Work) (e : Focus) (u : Underway w from1 v e) (z : Work) where
+    pub further : (x : Focus) → Went b low v e z x → Underway w from1 z x
     further x s = record {
       ready = s.ready;
-      steps = trans u.steps (moves_steps (move s.goes.1 s.goes.2));
+      moves = lowest_moves_on u.moves (move_on s.goes.1 s.goes.2);
       kept = kept_on low w v z u.kept s.kept;
     }
 
@@ -110,19 +109,18 @@ module _ (b : Book) (low : ℕ) where
         let y = s.goes.0 in
         omega (
           arith,
-          cost_falls (told b) fine down (state_in v e) y u.ready.valid.fits s.goes.1,
-          moves_fall (told b) fine down s.goes.2 (move_fits (told b) fine down s.goes.1 u.ready.valid.fits),
+          cost_falls (told b) fine down (state_in v e) y u.ready.valid.fits s.goes.1.move,
+          moves_fall (told b) fine down (lowest_are_moves s.goes.2) (move_fits (told b) fine down s.goes.1.move u.ready.valid.fits),
         )
 
     pub last_state : (p : Place) → Ended b low v e z p →
-        Steps rs t (term_in z.store p.0) × Done rs (term_in z.store p.0) × (z.roots.top ≡ low)
+        LowestMoves rs from1 (finished (term_in z.store p.0)) × Done rs (term_in z.store p.0) × (z.roots.top ≡ low)
     last_state p d =
         let tp = term_in z.store p.0 in
         let none : frames_in z ≡ [] =
         ap (λ (n : ℕ). frames_of (λ k. held z.store z.roots k) z.frames.words.now n z.roots.top) d.depth in
-        let is : whole (state_in v e) ≡ tp =
-        ap whole (sym d.same) ∙ ap (λ (ks : List ModelFrame). whole (state ks (back tp))) none in (
-          subst (Steps rs t) is u.steps,
+        let is : state_in v e ≡ finished tp = sym d.same ∙ ap (λ (ks : List ModelFrame). state ks (back tp)) none in (
+          subst (LowestMoves rs from1) is u.moves,
           d.ready.valid.focus_done,
           subst (λ (n : ℕ). Framed z.frames.words.now n z.roots.top low) d.depth d.ready.running.framed,
         )
@@ -152,11 +150,8 @@ module _ (b : Book) (w0 : Work) (down : AllDown (rank (told b).ranks) (told b).r
   term_is : term_in st p.0 ≡ t
   term_is = ap (term_in st) at
 
-  first_state : state_in (work st q fr) (Eval p) ≡ state [] (eval t)
+  first_state : state_in (work st q fr) (Eval p) ≡ start t
   first_state = ap₂ (λ (ks : List ModelFrame) (u : Term). state ks (eval u)) no_frames term_is
-
-  pub first_whole : whole (state_in (work st q fr) (Eval p)) ≡ t
-  first_whole = ap whole first_state
 
   root_same : (k : ℕ) → root_in q k ≡ root_in q0 k
   root_same k = ap (λ (cs : List ℕ). root_at cs k) cut.cells
@@ -180,17 +175,21 @@ module _ (b : Book) (w0 : Work) (down : AllDown (rank (told b).ranks) (told b).r
   abbrev first : Work
   first = work st q fr
 
-  abbrev t0 : Term
-  t0 = whole (state_in first (Eval p))
+  abbrev x0 : State
+  x0 = state_in first (Eval p)
 
-  module _ (v : Work) (e : Focus) (u0 : Underway b low first t0 v e) (z : Work) where
+  -- moves from the first state are moves from the start
+  from_start : (y : State) → LowestMoves (told b).rules x0 y → LowestMoves (told b).rules (start t) y
+  from_start y ms = subst (λ (x : State). LowestMoves (told b).rules x y) first_state ms
+
+  module _ (v : Work) (e : Focus) (u0 : Underway b low first x0 v e) (z : Work) where
     kept_all : KeptBelow low v z → KeptBelow low first z
     kept_all k = kept_on low first v z u0.kept k
 
     pub normal : (x : Place) → Ended b low v e z x → (o : Roots) → StackedOn z.roots low x.0 o →
         Normalized b w0 (work z.store o z.frames) (Ok tt)
     normal x d o on =
-        let (steps, done, top) = last_state b low first t0 v e u0 z x d in
+        let (ms, done, top) = last_state b low first x0 v e u0 z x d in
         let k = kept_all d.kept in
         let is : held z.store o low ≡ term_in z.store x.0 = ap (term_in z.store) on.is in
         record {
@@ -205,16 +204,16 @@ module _ (b : Book) (w0 : Work) (down : AllDown (rank (told b).ranks) (told b).r
           terms = λ j l. ap (term_in z.store) (on.rest j (λ y. omega arith)) ∙ k.terms j l ∙ ap (term_in st) (root_same j);
           result = (
             omega (arith, on.top, can.some),
-            subst (λ (y : Term). Steps (told b).rules y (held z.store o low)) first_whole
-                (subst (Steps (told b).rules t0) (sym is) steps),
-            subst (Done (told b).rules) (sym is) done,
+            subst (Finishes (told b).rules t) (sym is)
+                (let moves = from_start (finished (term_in z.store x.0)) ms in
+                record { moves = moves; steps = moves_steps (lowest_are_moves moves); done = done }),
           );
         }
       where
         inside_low : (j : ℕ) → j < low + 1 → Dec (j ≡ low) → root_in o j < z.store.count
         inside_low j l (yes y) = omega (arith, ap (λ (i : ℕ). root_in o i) y, on.is, d.ready.running.focus)
         inside_low j l (no y) =
-            let h = last_state b low first t0 v e u0 z x d in
+            let h = last_state b low first x0 v e u0 z x d in
             omega (arith, on.rest j y, d.ready.running.inside.low j (omega (arith, h.2)))
 
     pub stopped : Halted (told b).rules low v (whole (state_in v e)) z → (o : Roots) → CutTo z.roots low o → (x : NoRoom) →
@@ -222,7 +221,9 @@ module _ (b : Book) (w0 : Work) (down : AllDown (rank (told b).ranks) (told b).r
     stopped d o c x =
         let k = kept_all d.kept in
         let same : (j : ℕ) → root_in o j ≡ root_in z.roots j = λ j. ap (λ (cs : List ℕ). root_at cs j) c.cells in
-        let u = whole (state_in v e) in
+        let y = state_in v e in
+        let u = whole y in
+        let moves = from_start y u0.moves in
         let lack = wanting_kept low first v u u0.kept d.wanting in
         record {
           sound = d.sound;
@@ -236,11 +237,13 @@ module _ (b : Book) (w0 : Work) (down : AllDown (rank (told b).ranks) (told b).r
           terms = λ j l. ap (term_in z.store) (same j) ∙ k.terms j l ∙ ap (term_in st) (root_same j);
           result = (
             c.top,
-            (
-              u,
-              subst (λ (y : Term). Steps (told b).rules y u) first_whole u0.steps,
-              subst (λ (cs : List ℕ). Wanting st.room (length fr0.words.now) (length cs) low (λ j. term_in st (root_at cs j)) u) cut.cells
-                  (subst (λ (ws : List ℕ). Wanting st.room (length ws) (length q.cells.now) low (λ j. held st q j) u) none.words lack),
-            ),
+            record {
+              at_last = y;
+              moves = moves;
+              steps = moves_steps (lowest_are_moves moves);
+              wanting =
+                  subst (λ (cs : List ℕ). Wanting st.room (length fr0.words.now) (length cs) low (λ j. term_in st (root_at cs j)) u) cut.cells
+                  (subst (λ (ws : List ℕ). Wanting st.room (length ws) (length q.cells.now) low (λ j. held st q j) u) none.words lack);
+            },
           );
         }

@@ -6,7 +6,7 @@ use mathlib.Core.Option.{some}
 use Rattle.rewriting.specs.Terms.{nth, count, Term, letter, sign, Terms, none1, and1, put, puts, SmallLetter, Fits}
 use Rattle.rewriting.specs.Rules.{Eq}
 use Rattle.rewriting.specs.Order.{Rank, rank, Greater, by_part, by_sign, by_order}
-use Rattle.rewriting.specs.Machine.{Still}
+use Rattle.rewriting.specs.Machine.{Still, StillBefore}
 use Rattle.rewriting.proofs.Ordering.{greater_letters}
 use Rattle.rewriting.proofs.Signature.{over_fits, over_letters}
 use Rattle.books.specs.Rows.{row}
@@ -21,7 +21,7 @@ use Rattle.engine.specs.declared.types.Bindings.{Bindings}
 use Rattle.books.specs.Books.{told, blank, rule_in, sound_book_in}
 use Rattle.engine.specs.Matching.{put_in, Instance, Pattern}
 use Rattle.engine.specs.Building.{AllBound, Fillable, RowInstanceBuilt}
-use Rattle.engine.specs.Rewriting.{Rewritable, FirstPartsApart, ByRule}
+use Rattle.engine.specs.Rewriting.{Rewritable, FirstPartsApart, LowestRule, ByRule}
 use Rattle.books.proofs.Bookish.{is_rule, rule_sides}
 
 -- the greater term is no letter
@@ -106,23 +106,28 @@ module _ (k : Book) (st : Store) (p : Place) (can : Rewritable k st p) where
     pub right_bound : (b : Bindings) → Instance st b (rule_in k i).left (term_in st p.0) → AllBound b (rule_in k i).right
     right_bound b m x h = m.letters x (greater_letters (rank (told k).ranks) goes_down x h)
 
-    pub by_this_rule : (b : Bindings) (su : Store) (q : Place) → Instance st b (rule_in k i).left (term_in st p.0) →
+    pub by_this_rule : (b : Bindings) (su : Store) (q : Place) → LowestRule k st p b i →
         RowInstanceBuilt st b (rule_in k i).right su q → ByRule (told k).rules (term_in st p.0) su q
-    by_this_rule b su q m h = record {
+    by_this_rule b su q found h = record {
       index = i;
       rule = rule_in k i;
       filling = put_in st b;
       has = is_rule k (sound_book_in k) i low;
-      left = m.is;
+      left = found.fits.is;
+      first = found.first;
       right = h.is;
       inside = h.inside;
     }
 
-  -- no rule matches
+  -- no rule matches; and none before rule n does
   pub still : ((i : ℕ) → i < length (told k).rules → (s : ℕ → Term) → put s (rule_in k i).left ≡ term_in st p.0 → ⊥) →
       Still (told k).rules (term_in st p.0)
   still h i r e s d =
       h i (nth_below (told k).rules i r e) s (ap (λ (x : Eq). put s x.left) (nth_is (told k).rules i r blank e) ∙ d)
+
+  pub still_before : (n : ℕ) → ((i : ℕ) → i < n → (s : ℕ → Term) → put s (rule_in k i).left ≢ term_in st p.0) →
+      StillBefore (told k).rules n (term_in st p.0)
+  still_before n h i r l e s d = h i l s (ap (λ (x : Eq). put s x.left) (nth_is (told k).rules i r blank e) ∙ d)
 
 -- how many rules are left from the next one on
 abbrev pub left_from : ℕ → Maybe ℕ → ℕ

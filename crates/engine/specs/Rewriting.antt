@@ -1,4 +1,4 @@
--- Rewriting at the top of a term of the store, by the first rule whose left side matches.
+-- Rewriting at the top of a term of the store, by the lowest-numbered rule whose left side matches.
 use Rattle.std.specs.Prelude.{◌≡◌, ℕ, ◌+◌, ◌<◌, ◌≤◌, List, length, Some, None, Option as Maybe, ◌≢◌, slice_index, ⊤}
 use Rattle.books.specs.Reading.{SymbolAt}
 use Rattle.books.specs.declared.words.Symbol.TheVariants.{Sign as SignSymbol}
@@ -6,7 +6,7 @@ use Rattle.std.proofs.Math.Option.{some}
 use Rattle.rewriting.specs.Terms.{nth, Term, sign, Terms, put, Fits}
 use Rattle.rewriting.specs.Rules.{Eq}
 use Rattle.rewriting.specs.Order.{rank, AllDown}
-use Rattle.rewriting.specs.Machine.{Still}
+use Rattle.rewriting.specs.Machine.{Still, StillBefore}
 use Rattle.store.specs.declared.types.Store.{Store}
 use Rattle.store.specs.declared.types.Place.{Place}
 use Rattle.store.specs.declared.types.Node.TheVariants.{Sign}
@@ -39,18 +39,26 @@ abbrev pub Opening : List ℕ → List ℕ → Maybe (ℕ × ℕ) → Type 0
 Opening ps ws (Some (g, n)) = SymbolAt ws 0 (Some (SignSymbol g)) × (n ≡ slice_index ps g) × (0 < n)
 Opening ps ws None = ⊤
 
--- a rule with what is put for the letters of its left side, or that no rule can be used
+-- rule i is the lowest-numbered one that can be used at the top of the term at a place, with what is put for the letters of its left side
+pub record LowestRule (k : Book) (st : Store) (p : Place) (b : Bindings) (i : ℕ) : Type 0 where
+  pub low : i < length (told k).rules
+  pub fits : Instance st b (rule_in k i).left (term_in st p.0)
+  pub first : StillBefore (told k).rules i (term_in st p.0)
+
+-- that rule, or that no rule can be used
 abbrev pub RuleFound : Book → Store → Place → Bindings → Maybe ℕ → Type 0
-RuleFound k st p b (Some i) = (i < length (told k).rules) × Instance st b (rule_in k i).left (term_in st p.0)
+RuleFound k st p b (Some i) = LowestRule k st p b i
 RuleFound k st p b None = Still (told k).rules (term_in st p.0)
 
--- the term t is a left side, and the right side of its rule stands at place q, with the same put for letters
+-- the term t is a left side, that of the lowest-numbered rule that can be used at its top, and the right side of this rule stands at
+-- place q, with the same put for letters
 pub record ByRule (rs : List Eq) (t : Term) (su : Store) (q : Place) : Type 0 where
   pub index : ℕ
   pub rule : Eq
   pub filling : ℕ → Term
   pub has : nth rs index ≡ some rule
   pub left : put filling rule.left ≡ t
+  pub first : StillBefore rs index t
   pub right : term_in su q.0 ≡ put filling rule.right
   pub inside : q.0 < su.count
 

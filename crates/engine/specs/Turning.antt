@@ -3,7 +3,7 @@ use Rattle.std.specs.Prelude.{◌≡◌, ℕ, ◌+◌, ◌-◌, ◌*◌, ◌<◌
 use Rattle.rewriting.specs.Terms.{Term}
 use Rattle.rewriting.specs.Rules.{Eq, Steps, Done}
 use Rattle.rewriting.specs.Order.{rank, AllDown}
-use Rattle.rewriting.specs.Machine.{State, Still, Move, Moves, Valid}
+use Rattle.rewriting.specs.Machine.{State, Still, LowestMove, LowestMoves, Valid}
 use Rattle.store.specs.declared.types.Store.{Store}
 use Rattle.store.specs.declared.types.Roots.{Roots}
 use Rattle.store.specs.declared.types.Place.{Place}
@@ -20,7 +20,8 @@ use Rattle.engine.specs.Frames.{frame_at, FramePushed}
 use Rattle.engine.specs.Rewriting.{ByRule}
 use Rattle.engine.specs.Running.{Running, Holding, state_in}
 
--- what the term t comes to: by a rule to another, or to its normal form; or no rule can be used at its top
+-- what the term t comes to: to another by the lowest-numbered rule that can be used at its top, or to its normal form; or there is no
+-- such rule
 pub record NormalAt (rs : List Eq) (t : Term) (su : Store) (q : Place) : Type 0 where
   pub inside : q.0 < su.count
   pub steps : Steps rs t (term_in su q.0)
@@ -43,9 +44,9 @@ pub record Applied (rs : List Eq) (st : Store) (p : Place) (su : Store) (c : Foc
   pub holding : Holding rs st su
   pub result : ComesTo rs (term_in st p.0) su c
 
--- one move or more
+-- one move or more; each that is by a rule is by the lowest-numbered one that can be used there
 abbrev pub Goes : List Eq → State → State → Type 0
-Goes rs x z = (y : State) × Move rs x y × Moves rs y z
+Goes rs x z = (y : State) × LowestMove rs x y × LowestMoves rs y z
 
 -- there is space for a turn
 pub record SpaceForTurn (w : Work) : Type 0 where

@@ -27,7 +27,8 @@ impl Work<'_> {
 }
 
 impl Reducer<'_, '_, '_> {
-    // Puts the normal form of the uppermost root's term in its place; or takes this root away, for want of space.
+    // Puts the normal form of the uppermost root's term in its place; or takes this root away, for want of space. Either is come to by
+    // moves of the machine that is the model, and each move by a rule is by the lowest-numbered one that can be used there.
     pub fn normalize(&mut self) -> Result<(), NoRoom>
         requires { Startable self.old.rules.now.book self.old.work.now }
         ensures lent { Lent self.old self.new }

@@ -1,4 +1,4 @@
-// Rewriting at the top of a term, by the first rule that matches.
+// Rewriting at the top of a term, by the lowest-numbered rule that matches.
 // Stays in the contracts that the rules can be used at p: it relates a book, a store and a place, which are lent apart.
 ghost use Rattle.std.specs.Prelude.{◌≡◌, ◌+◌, ◌<◌, ◌≤◌, ◌≢◌, false};
 ghost use Rattle.rewriting.specs.Terms.{Term, Terms, sign};
@@ -56,7 +56,7 @@ fn match_rule(
     bind_pattern(left, store, p, bindings)
 }
 
-// The first rule whose left side matches the term at p, with what is put for its letters, by reference as at `bind_pattern`.
+// The lowest-numbered rule whose left side matches the term at p, with what is put for its letters, by reference as at `bind_pattern`.
 pub(crate) fn find_rule(
     book: &Book,
     store: &Store,
@@ -95,7 +95,7 @@ pub(crate) fn opening(book: &Book, right: &[u32]) -> Option<(u32, usize)>
     (n > 0 && book.index.first_with(g).is_none()).then_some((g, n))
 }
 
-// What one step at the top makes of the term at p, if a rule can be used there.
+// What one step at the top makes of the term at p, by the lowest-numbered rule that can be used there, if there is one.
 pub fn rewrite(book: &Book, store: &mut Store, p: Place) -> Option<Place>
     requires { (Rewritable book.now store.old p) × (store.old.count + 32 ≤ store.old.limit) }
     ensures { Rewritten (told book.now).rules store.old p store.new result }

@@ -35,7 +35,8 @@ fn known(store: &Store, p: Place) -> Option<Place>
     store.note(p)
 }
 
-// What the term at p comes to at once: its normal form if that is known, or what a rule makes of it at its top.
+// What the term at p comes to at once: its normal form if that is known, or what the lowest-numbered rule that can be used at its top
+// makes of it.
 fn advance(book: &Book, store: &mut Store, p: Place) -> Option<Focus>
     requires rewritable { Rewritable book.now store.old p }
     requires slots { store.old.count + 32 ≤ store.old.limit }
@@ -119,8 +120,8 @@ impl Work<'_> {
         Focus::Eval(places[0])
     }
 
-    // To what a rule makes of the term at p, if one can be used at its top. If no rule could be used on that in turn, it is not made: only
-    // its parts are, and work goes on at the first of them.
+    // To what the lowest-numbered rule that can be used at the top of the term at p makes of it, if there is one. If no rule could be used
+    // on that in turn, it is not made: only its parts are, and work goes on at the first of them.
     fn by_rule(&mut self, book: &Book, p: Place) -> Option<Focus>
         requires can_turn { CanTurn book.now self.old (Eval p) }
         requires space { SpaceForTurn self.old }

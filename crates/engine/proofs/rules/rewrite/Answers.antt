@@ -13,8 +13,8 @@ row_instance-requires-clause-few_parts c =
       book_parts k.words.now (told k) k.reads _ (c.parts.ensures ∙ sym (head_of k.words.now (told k) k.reads).parts),
       (
         _,
-        right_fillable k c.in_ok-i.i found.0 _ _ c.find_rule.new.bindings c.parts.ensures c.rule.ensures.right
-            (right_bound k c.args.store.now c.args.p c.requires.0 c.in_ok-i.i found.0 c.find_rule.new.bindings found.1),
+        right_fillable k c.in_ok-i.i found.low _ _ c.find_rule.new.bindings c.parts.ensures c.rule.ensures.right
+            (right_bound k c.args.store.now c.args.p c.requires.0 c.in_ok-i.i found.low c.find_rule.new.bindings found.fits),
       ),
     )
 
@@ -22,13 +22,13 @@ pub returns : goal.returns
 returns c =
     let k = c.args.book.now in
     let found = c.in_ok-i.ensures in
-    let f = right_fillable k c.in_ok-i.i found.0 _ _ c.find_rule.new.bindings c.parts.ensures c.rule.ensures.right
-    (right_bound k c.args.store.now c.args.p c.requires.0 c.in_ok-i.i found.0 c.find_rule.new.bindings found.1) in
+    let f = right_fillable k c.in_ok-i.i found.low _ _ c.find_rule.new.bindings c.parts.ensures c.rule.ensures.right
+    (right_bound k c.args.store.now c.args.p c.requires.0 c.in_ok-i.i found.low c.find_rule.new.bindings found.fits) in
     let made = c.row_instance.ensures _ f in
     record {
       sound = made.sound;
       grown = made.grown;
       few = omega (arith, made.few, f.small);
-      result = by_this_rule k c.args.store.now c.args.p c.requires.0 c.in_ok-i.i found.0
-          c.find_rule.new.bindings c.row_instance.new.store c.row_instance.result found.1 made;
+      result = by_this_rule k c.args.store.now c.args.p c.requires.0 c.in_ok-i.i found.low
+          c.find_rule.new.bindings c.row_instance.new.store c.row_instance.result found made;
     }

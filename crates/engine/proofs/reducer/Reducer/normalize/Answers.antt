@@ -1,7 +1,6 @@
 -- From the start to the end.
 use Rattle.std.proofs.Common.{◌-◌, Ok, refl, subst}
 use Rattle.std.specs.declared.ops.ControlFlow.{ControlFlow}
-use Rattle.rewriting.specs.Machine.{whole}
 use Rattle.store.specs.declared.types.Place.{Place}
 use Rattle.engine.specs.declared.types.Focus.{Focus}
 use Rattle.engine.specs.declared.types.Focus.TheVariants.{Eval}
@@ -31,7 +30,7 @@ loop-next-smaller c =
     let v = c.loop-next.self.work.now in
     let turn = subst (λ (x : ControlFlow Place Focus). Stepped b low v c.loop-next.focus c.step.new.self (Ok x))
     c.in-Ok-Continue.field-0-is (c.in-Ok-Continue.ensures low c.loop-next.invariant.1.ready) in
-    falls b low first (whole (state_in first (Eval c.place.result))) v c.loop-next.focus
+    falls b low first (state_in first (Eval c.place.result)) v c.loop-next.focus
     c.loop-next.invariant.1 c.step.new.self c.in-Ok-Continue.next turn
 
 pub loop-next-preserved : goal.loop-next-preserved
@@ -44,7 +43,7 @@ loop-next-preserved c =
     let turn = subst (λ (x : ControlFlow Place Focus). Stepped b low v c.loop-next.focus c.step.new.self (Ok x))
     c.in-Ok-Continue.field-0-is (c.in-Ok-Continue.ensures low c.loop-next.invariant.1.ready) in (
       record { rules = c.loop-next.invariant.0.rules; lent = c.loop-next.invariant.0.lent },
-      further b low first (whole (state_in first (Eval c.place.result))) v c.loop-next.focus
+      further b low first (state_in first (Eval c.place.result)) v c.loop-next.focus
           c.loop-next.invariant.1 c.step.new.self c.in-Ok-Continue.next turn,
     )
 

@@ -1,5 +1,4 @@
 -- Where the machine has come to; each turn makes the cost smaller.
-use Rattle.rewriting.specs.Machine.{whole}
 use Rattle.rewriting.proofs.Costing.{cost}
 use Rattle.books.specs.Books.{told}
 use Rattle.engine.specs.Running.{state_in}
@@ -12,4 +11,4 @@ decreases-loop-next l = cost (told l.book) (state_in l.self.work.now l.focus)
 
 abbrev pub invariant-loop-next : goal.invariant-loop-next
 invariant-loop-next l = Lent l.initial.self l.self
-    × Underway l.book l.low l.initial.self.work.now (whole (state_in l.initial.self.work.now l.initial.focus)) l.self.work.now l.focus
+    × Underway l.book l.low l.initial.self.work.now (state_in l.initial.self.work.now l.initial.focus) l.self.work.now l.focus

@@ -39,8 +39,8 @@ returns-in_default c low ready =
     c.parts.ensures c.rule.ensures.right) in
     eval_turned k low st q fr c.args.p ready c.row_instance-q.new.store _
     (holding_grown (told k).rules st c.row_instance-q.new.store ready.running.honest made.sound made.grown)
-    (by_this_rule k st c.args.p (eval_rewritable k low st q fr c.args.p ready) c.in_ok-i.i found.0 c.find_rule.new.bindings
-    c.row_instance-q.new.store c.row_instance-q.result found.1 made)
+    (by_this_rule k st c.args.p (eval_rewritable k low st q fr c.args.p ready) c.in_ok-i.i found.low c.find_rule.new.bindings
+    c.row_instance-q.new.store c.row_instance-q.result found made)
 
 pub row_parts-places-requires-clause-few_parts : goal.row_parts-places-requires-clause-few_parts
 row_parts-places-requires-clause-few_parts c =
@@ -75,7 +75,7 @@ returns c low ready =
     let q = c.args.self.now.roots in let fr = c.args.self.now.frames in
     let can = filled k low st q fr c.args.p ready _ c.find_rule.new.bindings c.in_ok-i.ensures in
     let f = can _ _ refl c.rule.ensures.right in
-    by_opening k low st q fr c.args.p ready.running c.in_ok-i.i found.0 c.find_rule.new.bindings found.1 c.rule.result.right.now c.in-Some.g
+    by_opening k low st q fr c.args.p ready.running c.in_ok-i.i c.find_rule.new.bindings found c.rule.result.right.now c.in-Some.g
     c.in-Some.n f.row c.in-Some.ensures
     (opening_few (told k).parts _ _ f.row c.in-Some.g c.in-Some.n c.in-Some.ensures (few_of k _ refl))
     c.row_parts-places.new.store c.row_parts-places.result (c.row_parts-places.ensures _ (can _ _ c.parts-2.ensures c.rule.ensures.right))
