@@ -15,7 +15,7 @@ use Rattle.store.specs.Making.{LetterShared}
 use Rattle.store.proofs.Cases.{le_or_lt, last_or_below, eq_or}
 use Rattle.store.proofs.Placing.{grown_then}
 use Rattle.engine.specs.declared.types.Bindings.{Bindings}
-use Rattle.engine.specs.Matching.{bound, term_or, put_in, AllInside, Bound}
+use Rattle.engine.specs.Matching.{bound, put_in, AllInside, Bound}
 use Rattle.engine.proofs.Builts.{put_in_bound}
 use Rattle.unification.specs.Unifiers.{LettersBound}
 use Rattle.unification.proofs.Lettering.{same_letter}

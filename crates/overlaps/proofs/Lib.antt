@@ -5,3 +5,4 @@ pub mod Lettering
 pub mod Pairing
 pub mod Judging
 pub mod Going
+pub mod Verdicts

@@ -1,7 +1,7 @@
 -- Where two rules meet: by the words of their left sides.
 use Rattle.std.proofs.Common.{◌≡◌, ℕ, ◌+◌, ◌*◌, ◌<◌, ◌≤◌, List, ◌++◌, length, get_or, drop, Some, None, sym, refl, ap, ◌∙◌, subst}
-use Rattle.std.proofs.Common.{append-nil, arith, length-drop}
-use Rattle.rewriting.specs.Terms.{Term, letter, sign, Terms, none1, and1, put, puts, size, Over, SmallLetter}
+use Rattle.std.proofs.Common.{arith, length-drop}
+use Rattle.rewriting.specs.Terms.{Term, letter, sign, Terms, put, puts, size, Over, SmallLetter}
 use Rattle.rewriting.specs.Rules.{Part, renamed}
 use Rattle.rewriting.specs.Order.{rank, AllDown}
 use Rattle.rewriting.proofs.Glueing.{size_some}
@@ -15,7 +15,8 @@ use Rattle.books.proofs.Bookish.{is_rule, rule_sides}
 use Rattle.books.proofs.Glueing.{row_length}
 use Rattle.books.proofs.Unique.{row_once}
 use Rattle.engine.proofs.Trying.{greater_sign}
-use Rattle.overlaps.specs.Positions.{index, At, SameSign, OverlapIs, OverlapOrNone}
+use Rattle.critical_pairs.specs.OverlapList.{index}
+use Rattle.overlaps.specs.Positions.{At, SameSign, OverlapIs, OverlapOrNone}
 use Rattle.overlaps.proofs.Positions.{at_index, behind, words_from, part_length}
 
 first_sign : (v : Term) (zs : List ℕ) → (get_or (row v ++ zs) 0 0 ≡ 0 → ⊥) → (f : ℕ) × (vs : Terms) × (v ≡ sign f vs)
@@ -71,6 +72,7 @@ module _ (b : Book) (down : AllDown (rank (told b).ranks) (told b).rules) (i j k
           outer = refl;
           inner = refl;
           stands = record { outer = low.0; inner = low.1; part = v; place = place; at = each v place e };
+          symbol = e;
           is_sign = first_sign v (behind place)
               (λ y. absurd (omega (arith, g.1.1, ap (λ (w : List ℕ). get_or w 0 0) (sym (from_here place e)) ∙ y)));
           each = each;

@@ -12,7 +12,8 @@ use Rattle.rewriting.proofs.Signature.{over_put, over_letters}
 use Rattle.books.specs.Rows.{row, rows}
 use Rattle.books.proofs.Glueing.{row_length}
 use Rattle.store.proofs.Cases.{le_or_lt}
-use Rattle.overlaps.specs.Positions.{index, indexes, At, holed}
+use Rattle.critical_pairs.specs.OverlapList.{index, indexes}
+use Rattle.overlaps.specs.Positions.{At, holed}
 
 -- each symbol starts a part
 mutual
@@ -28,15 +29,6 @@ mutual
       (λ l. let (v, p, e) = at_indexes ts (k - size t) (omega arith) in (v, in_later p, omega (arith, e)))
       (λ l. let (v, p, e) = at_index t k l in (v, in_this p, e))
       (le_or_lt (size t) k)
-
-mutual
-  pub index_low : {v t : Term} (p : Part v t) → index p < size t
-  index_low {t = t} itself = omega (arith, size_some t)
-  index_low (in_part p) = omega (arith, indexes_low p)
-
-  indexes_low : {v : Term} {ts : Terms} (p : Parts v ts) → indexes p < sizes ts
-  indexes_low (in_this p) = omega (arith, index_low p)
-  indexes_low (in_later p) = omega (arith, indexes_low p)
 
 -- the words before a part and behind it
 abbrev mutual

@@ -1,21 +1,13 @@
--- Positions in a term: the number of the symbol in its row where a part starts.
+-- Where the parts of a term stand in its row, and where one rule's left side may be put on a part of another's.
 use Rattle.std.specs.Prelude.{◌≡◌, ℕ, ◌+◌, ◌*◌, ◌<◌, List, ◌∷◌, ◌++◌, length, take, drop, Some, None, Option as Maybe, ◌≢◌}
 use Rattle.rewriting.specs.Terms.{Term, sign, Terms, put, size}
-use Rattle.rewriting.specs.Rules.{Part, itself, in_part, Parts, in_this, in_later, renamed}
+use Rattle.rewriting.specs.Rules.{Part, renamed}
+use Rattle.critical_pairs.specs.OverlapList.{index}
 use Rattle.books.specs.declared.row.Book.{Book}
 use Rattle.books.specs.declared.words.Symbol.TheVariants.{Sign}
 use Rattle.books.specs.Reading.{SymbolAt}
 use Rattle.books.specs.Books.{told, rule_in}
 use Rattle.overlaps.specs.declared.types.Overlap.{Overlap}
-
-abbrev mutual
-  pub index : {v t : Term} → Part v t → ℕ
-  index itself = 0
-  index (in_part p) = 1 + indexes p
-
-  pub indexes : {v : Term} {ts : Terms} → Parts v ts → ℕ
-  indexes (in_this p) = index p
-  indexes (in_later {t = t} p) = size t + indexes p
 
 -- the words of a part
 pub record At {v t : Term} (place : Part v t) (a z : ℕ) : Type 0 where
@@ -40,6 +32,7 @@ pub record OverlapIs (b : Book) (i j k : ℕ) (o : Overlap) : Type 0 where
   pub outer : o.outer ≡ i
   pub inner : o.inner ≡ j
   pub stands : Stands b o
+  pub symbol : index stands.place ≡ k
   pub is_sign : (f : ℕ) × (vs : Terms) × (stands.part ≡ sign f vs)
   pub each : (v : Term) (place : Part v (rule_in b o.outer).left) → index place ≡ k → At place o.from o.to
 

@@ -35,7 +35,8 @@ fn results_meet(reducer: &mut Reducer, i: usize, j: usize, k: usize) -> Result<b
     reducer.compare()
 }
 
-// Whether all that comes from one term meets. A rule may meet itself too.
+// Whether all that comes from one term meets, by the list of overlaps in order: all are resolved, or those up to the first whose results come
+// to different normal forms. A rule may meet itself too.
 pub fn one_end(reducer: &mut Reducer) -> Result<bool, NoRoom>
     requires none { reducer.old.work.now.roots.top ≡ 0 }
     requires room { (n : ℕ) × Ample n reducer.old.work.now }
@@ -47,8 +48,9 @@ pub fn one_end(reducer: &mut Reducer) -> Result<bool, NoRoom>
     let rules = book.layout.rules();
     let mut found = true;
     'pairs: for i in 0..rules {
+        let symbols = book.rule(i).left.len() / 2;
         for j in 0..rules {
-            for k in 0..book.rule(i).left.len() / 2 {
+            for k in 0..symbols {
                 let meet = results_meet(reducer, i, j, k)?;
                 if !meet {
                     found = false;

@@ -9,7 +9,7 @@ pub const LETTERS: usize = 16;
 pub const HOLE: usize = 16;
 
 // Where two rules may meet: the left side of rule `inner`, at the part of rule `outer`'s left side that stands in its row from word
-// `from` up to `to`.
+// `from` up to `to`. Of what is in the list of overlaps (`critical_pairs`) it has the numbers.
 // Stays two places: a range can't be copied, and the words of the part alone wouldn't tell what stands around it.
 #[derive(Clone, Copy)]
 pub struct Overlap {

@@ -1,12 +1,12 @@
 -- One overlap more; all symbols; all second rules; all rules.
-use Rattle.std.proofs.Common.{Bool, Ok, Err, length, sym, ap, subst, arith}
+use Rattle.std.proofs.Common.{Bool, false, Ok, Err, length, sym, ap, subst, arith}
 use Rattle.std.proofs.lemmas.Result.{err_from_is_err_and}
 use Rattle.books.specs.Books.{rule_in, sound_book_in}
 use Rattle.books.proofs.Glueing.{row_length}
-use Rattle.engine.proofs.Keeping.{down_in, idle_then, ample_still}
+use Rattle.engine.proofs.Keeping.{idle_then, ample_still}
 use Rattle.overlaps.specs.Verdict.{OneEndSays, OverlapSays}
-use Rattle.overlaps.proofs.Going.{rule_still, symbol_still, says_still}
-use Rattle.overlaps.proofs.Judging.{joined_more, joined_symbols, joined_rules, all_joined}
+use Rattle.overlaps.proofs.Going.{rule_still, symbol_still, says_still, joined_more, joined_symbols, joined_rules}
+use Rattle.overlaps.proofs.Verdicts.{all_resolved, first_failing}
 use Rattle.overlaps.proofs.ends.one_end.Goals as goal
 
 pub results_meet-requires : goal.results_meet-requires
@@ -46,7 +46,9 @@ returns-in_err-meet-clause-result c n a =
     let k = c.loop-k.k in
     let d = idle_then (idle_then c.pairs.invariant.idle c.loop-j.invariant.idle) c.loop-k.invariant.idle in
     let p = err_from_is_err_and c.from_residual.result c.from_residual.ensures.1 in
-    rw p.1 (says_still d n i j k (Err c.in_err-meet.field-0.0) (c.in_err-meet.ensures.result n (ample_still d.idle a)))
+    let e = Err c.in_err-meet.field-0.0 in
+    rw p.1 (first_failing c.args.reducer.now.rules.now.book n i j k e c.loop-k.invariant.joined
+    (says_still d n i j k e (c.in_err-meet.ensures.result n (ample_still d.idle a))))
 
 pub returns-then-not-meet-clause-result : goal.returns-then-not-meet-clause-result
 returns-then-not-meet-clause-result c n a =
@@ -56,7 +58,8 @@ returns-then-not-meet-clause-result c n a =
     let k = c.loop-k.k in
     let d = idle_then (idle_then c.pairs.invariant.idle c.loop-j.invariant.idle) c.loop-k.invariant.idle in
     let told = says_still d n i j k (Ok c.in_ok-meet.meet) (c.in_ok-meet.ensures.result n (ample_still d.idle a)) in
-    subst (λ (x : Bool). OverlapSays b n i j k (Ok x)) c.if-not-meet.true told
+    first_failing b n i j k (Ok false) c.loop-k.invariant.joined
+    (subst (λ (x : Bool). OverlapSays b n i j k (Ok x)) c.if-not-meet.true told)
 
 pub loop-j-preserved : goal.loop-j-preserved
 loop-j-preserved c =
@@ -82,5 +85,4 @@ pub returns-after-pairs-clause-result : goal.returns-after-pairs-clause-result
 returns-after-pairs-clause-result c n a =
     let b = c.args.reducer.now.rules.now.book in
     subst (λ (x : Bool). OneEndSays b n (Ok x)) (sym c.pairs.invariant.none)
-    (all_joined b c.pairs.i 0 0 (sound_book_in b) (down_in c.args.reducer.now)
-    (omega (arith, c.rules-rules.ensures, (sound_book_in b).laid.rules)) c.pairs.invariant.joined)
+    (all_resolved b c.pairs.i 0 0 (omega (arith, c.rules-rules.ensures, (sound_book_in b).laid.rules)) c.pairs.invariant.joined)
