@@ -21,7 +21,7 @@ use Rattle.equal.proofs.Stable.{Stable, by_dec, twice, dec_words, stable_reads, 
 use Rattle.ways.proofs.Remaining.{ways_fit}
 use Rattle.equal.proofs.Excluding.{settles_by}
 
-stable_down : (b : Book) → Stable (AllDown (rank b.ranks) b.rules)
+pub stable_down : (b : Book) → Stable (AllDown (rank b.ranks) b.rules)
 stable_down b h i r e = by_dec (dec_greater (rank b.ranks) r.left r.right) (twice (λ d. d i r e) h)
 
 module _ (b : Book) (fine : Fine b) (down : AllDown (rank b.ranks) b.rules) where

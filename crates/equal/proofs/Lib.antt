@@ -8,3 +8,5 @@ pub mod Excluding
 pub mod Stable
 pub mod Deciding
 pub mod Serving
+pub mod Outgrowing
+pub mod Recalling

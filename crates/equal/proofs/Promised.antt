@@ -1,5 +1,5 @@
 -- The promises of the two calls, from what was found.
-use Rattle.std.proofs.Common.{◌≡◌, ℕ, ◌+◌, ◌≤◌, List, length, Some, None, Option as Maybe, sym, refl, subst, arith}
+use Rattle.std.proofs.Common.{◌≡◌, ℕ, ◌+◌, ◌≤◌, List, length, Some, None, Option as Maybe, sym, refl, subst, arith, inl, inr}
 use native.Mathlib.Decide.{dec_le}
 use Rattle.rewriting.specs.Books.{Book as ToldBook}
 use Rattle.rewriting.proofs.Different.{different_size}
@@ -7,6 +7,14 @@ use Rattle.rewriting.proofs.Terminating.{down_ends}
 use Rattle.rewriting.proofs.Pairs.{told_by_pairs_lem}
 use Rattle.rewriting.proofs.Peaks.{overlaps_tell_lem, peaks_tell_lem}
 use Rattle.rewriting.proofs.Settling.{settled}
+use Rattle.rewriting.proofs.Grounding.{order_ends_lem}
+use Rattle.rewriting.proofs.Ordering.{order_kept_lem}
+use Rattle.rewriting.proofs.Unifying.{made_one}
+use Rattle.rewriting.proofs.Moving.{machine_steps_lem, machine_valid_lem}
+use Rattle.rewriting.proofs.Costing.{machine_ends_lem}
+use Rattle.critical_pairs.proofs.Sorted.{overlaps_are_listed}
+use Rattle.critical_pairs.proofs.Telling.{finitely_many_pairs_tell}
+use Rattle.critical_pairs.proofs.Renaming.{most_general_alike_holds}
 use Rattle.books.specs.declared.row.Book.{Book}
 use Rattle.books.specs.Books.{told, sound_book_in}
 use Rattle.books.specs.Rows.{Reads}
@@ -21,18 +29,27 @@ use Rattle.engine.specs.Meeting.{Ample, most_parts}
 use Rattle.equal.specs.Promises.{JudgedSays, TooFew, Large, Theorems, JudgedPost, ToldSays, Grows, ToldPost}
 use Rattle.equal.specs.Judging.{Growing, RoomFor, JudgedIn, SharedFor, not_settled, RowsSay}
 use Rattle.equal.specs.Serving.{StillServes}
-use Rattle.equal.proofs.Excluding.{excludes}
+use Rattle.equal.specs.Sessions.{RefusedSays}
 
 pub theorems : Theorems
 theorems = record {
   one_book = one_book;
   one_term = one_term;
   one_ways = one_ways;
-  down_ends = down_ends;
-  told_by_pairs_lem = told_by_pairs_lem;
-  overlaps_tell_lem = overlaps_tell_lem;
-  peaks_tell_lem = peaks_tell_lem;
-  settled = settled;
+  order_ends = order_ends_lem;
+  order_kept = order_kept_lem;
+  rules_down_end = down_ends;
+  least_or_none = made_one;
+  one_end_is_told = told_by_pairs_lem;
+  one_end_by_overlaps = overlaps_tell_lem;
+  one_end_by_steps_at_overlaps = peaks_tell_lem;
+  equal_terms_meet = settled;
+  moves_are_steps = machine_steps_lem;
+  moves_keep_validity = machine_valid_lem;
+  moves_end = machine_ends_lem;
+  overlaps_are_listed = overlaps_are_listed;
+  one_end_by_the_list = finitely_many_pairs_tell;
+  most_general_are_alike = most_general_alike_holds;
 }
 
 -- enough words are shared out
@@ -51,9 +68,6 @@ module _ {s h : List ℕ} {w : ℕ} {k : Work} (fresh : Fresh w k) (enough : Too
 
   -- what was found of a book that settles
   module _ {l : Work} (found : (n : ℕ) → RoomFor s h n k → JudgedIn s h n k l Settles) where
-    pub settles_said : JudgedSays s h Settles
-    settles_said = (found (most_parts w) room_for).says
-
     pub settled_serves : StillServes s k l
     settled_serves = (found (most_parts w) room_for).serves refl
 
@@ -93,33 +107,33 @@ module _ (s h x y : List ℕ) (w : ℕ) where
 
   module _ (enough : TooFew w (length s + (length h + (length x + length y))) → ⊥) where
     -- another answer rules out that the book settles
-    by : (r : Judged) → (r ≡ Settles → ⊥) → (r ≡ Room → ⊥) → (r ≡ Few → ⊥) → JudgedSays s h r → ToldPost s h x y w Unsettled
-    by r other room few says = record {
-      says = excludes s h r other room few says;
+    by : (JudgedSays s h Settles → ⊥) → ToldPost s h x y w Unsettled
+    by excluded = record {
+      says = excluded;
       full = λ e. cc;
       unjudged = λ e. cc;
       small = (λ small. absurd (enough small), λ e. cc);
       parts = theorems;
     }
 
-    at : (r : Judged) → (r ≡ Settles → ⊥) → JudgedPost s h w r → ToldPost s h x y w (not_settled r)
-    at Settles other p = absurd (other refl)
-    at (Up i) other p = by (Up i) other (λ e. cc) (λ e. cc) p.says
-    at Apart other p = by Apart other (λ e. cc) (λ e. cc) p.says
-    at (Lost i) other p = by (Lost i) other (λ e. cc) (λ e. cc) p.says
-    at Stray other p = by Stray other (λ e. cc) (λ e. cc) p.says
-    at NoBook other p = by NoBook other (λ e. cc) (λ e. cc) p.says
-    at Room other p = record {
+    at : (r : Judged) → RefusedSays s h w r → ToldPost s h x y w (not_settled r)
+    at Settles p = absurd (p.other refl)
+    at (Up i) p = by (p.excluded (λ e. cc) (λ e. cc))
+    at Apart p = by (p.excluded (λ e. cc) (λ e. cc))
+    at (Lost i) p = by (p.excluded (λ e. cc) (λ e. cc))
+    at Stray p = by (p.excluded (λ e. cc) (λ e. cc))
+    at NoBook p = by (p.excluded (λ e. cc) (λ e. cc))
+    at Room p = record {
       says = tt;
       full = λ e. cc;
-      unjudged = λ e. (p.says, p.room refl);
+      unjudged = λ e. p.room refl;
       small = (λ small. absurd (enough small), λ e. cc);
       parts = theorems;
     }
-    at Few other p = absurd (enough (omega (arith, p.few.1 refl)))
+    at Few p = absurd (enough (omega (arith, p.few refl)))
 
-    pub told_other : (r : Judged) → (r ≡ Settles → ⊥) → JudgedPost s h w r → (a : Told) → a ≡ not_settled r → ToldPost s h x y w a
-    told_other r other p a e = subst (ToldPost s h x y w) (sym e) (at r other p)
+    pub told_other : (r : Judged) → RefusedSays s h w r → (a : Told) → a ≡ not_settled r → ToldPost s h x y w a
+    told_other r p a e = subst (ToldPost s h x y w) (sym e) (at r p)
 
     -- it settles
     module _ (b : Book) (same : b.words.now ≡ s) (said : JudgedSays s h Settles) where
@@ -147,8 +161,10 @@ module _ (s h x y : List ℕ) (w : ℕ) where
       rows Different (t, u, ot, ou, e) = post Different (told b, t, u, said, reads, ot, ou, e) (λ d. cc) (λ d. cc) (λ d. cc)
       rows Unsettled none = absurd none
       rows NoTerm none = post NoTerm (told b, said, reads, none) (λ d. cc) (λ d. cc) (λ d. cc)
-      rows Full (t, u, o, steps, large) = post Full said
-          (λ d. (told b, t, u, reads, o, steps, omega (arith, different_size u))) (λ d. cc) (λ d. cc)
+      rows Full (t, u, v, ot, ou, inl steps, large) = post Full (told b, t, u, said, reads, ot, ou)
+          (λ d. (told b, t, v, reads, inl ot, steps, omega (arith, different_size v))) (λ d. cc) (λ d. cc)
+      rows Full (t, u, v, ot, ou, inr steps, large) = post Full (told b, t, u, said, reads, ot, ou)
+          (λ d. (told b, u, v, reads, inr ou, steps, omega (arith, different_size v))) (λ d. cc) (λ d. cc)
       rows Unjudged none = absurd none
       rows Small none = absurd none
 

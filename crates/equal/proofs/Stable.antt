@@ -5,12 +5,11 @@ use native.Mathlib.Decide.{ℕ_discrete, dec_le, dec_lt}
 use Rattle.rewriting.specs.Terms.{Term, SmallLetter, Ok}
 use Rattle.rewriting.specs.Rules.{Eq}
 use Rattle.rewriting.specs.Books.{Book, Sides, Fine}
-use Rattle.rewriting.specs.Ways.{Way, Ways}
 use Rattle.rewriting.proofs.Signature.{dec_over}
 use Rattle.books.specs.declared.words.Letters.TheVariants.{Any}
 use Rattle.books.specs.Layouts.{listed}
 use Rattle.books.specs.Reading.{Found, read}
-use Rattle.books.specs.Rows.{Reads, rowB, rowTerms, rowWays, AllFit, WaysFit}
+use Rattle.books.specs.Rows.{Reads, rowB, rowTerms, rowWays, WaysFit}
 use Rattle.books.proofs.Reading.{read_these}
 use Rattle.books.proofs.Sided.{terms, listed_terms, count_terms, rows_terms}
 use Rattle.books.proofs.Unique.{over_any}

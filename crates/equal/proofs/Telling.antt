@@ -1,6 +1,6 @@
 -- What is found of two rows says whether their terms are equal by the equations.
 use Rattle.std.proofs.Common.{◌≡◌, ℕ, ◌≤◌, Bool, true, false, List, length, Some, None, Option as Maybe, Ok, Err, Result, sym, ap, ◌∙◌}
-use Rattle.std.proofs.Common.{subst, inl, inr, arith}
+use Rattle.std.proofs.Common.{subst, arith}
 use Rattle.rewriting.specs.Terms.{Term, size, SmallLetter, Fits}
 use Rattle.rewriting.specs.Rules.{Steps, Done, Meet}
 use Rattle.rewriting.specs.Order.{rank, AllDown}
@@ -69,8 +69,7 @@ module _ (b : Book) (wk : Work) (down : AllDown (rank (told b).ranks) (told b).r
   says_full e h = at (found (Err e) h)
     where
       at : Compares b n h.0.0 h.0.1 (Err e) → RowsSay b n x y Full
-      at (v, inl s, large) = (h.0.0, v, inl h.0.2.left, s, large)
-      at (v, inr s, large) = (h.0.1, v, inr h.0.2.right, s, large)
+      at (v, s, large) = (h.0.0, h.0.1, v, h.0.2.left, h.0.2.right, s, large)
 
   says_none : RowsCompared b wk x y None → RowsSay b n x y NoTerm
   says_none h t u ot ou = h (t, u, record { left = ot; right = ou })

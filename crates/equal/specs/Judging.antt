@@ -118,8 +118,8 @@ RowsSay b n x y answer.Same = (t u : Term) × Of (told b).parts x t × Of (told 
 RowsSay b n x y answer.Different = (t u : Term) × Of (told b).parts x t × Of (told b).parts y u × (Equal (told b).eqs t u → ⊥)
 RowsSay b n x y answer.Unsettled = ⊥
 RowsSay b n x y answer.NoTerm = (t u : Term) → Of (told b).parts x t → Of (told b).parts y u → ⊥
-RowsSay b n x y answer.Full = (t u : Term) × (Of (told b).parts x t ⊎ Of (told b).parts y t) × Steps (told b).rules t u
-    × (n < different (u ∷ []))
+RowsSay b n x y answer.Full = (t u v : Term) × Of (told b).parts x t × Of (told b).parts y u
+    × (Steps (told b).rules t v ⊎ Steps (told b).rules u v) × (n < different (v ∷ []))
 RowsSay b n x y answer.Unjudged = ⊥
 RowsSay b n x y answer.Small = ⊥
 

@@ -2,3 +2,4 @@
 pub mod Promises
 pub mod Serving
 pub mod Judging
+pub mod Sessions

@@ -7,7 +7,9 @@ use Rattle.rewriting.specs.Order.{rank, Greater, AllDown}
 use Rattle.rewriting.specs.Overlaps.{Peak}
 use Rattle.rewriting.specs.Books.{Book, OneEnd, NoLess}
 use Rattle.rewriting.specs.Ways.{Ways}
-use Rattle.rewriting.specs.Theorems.{DownEnds, OverlapsTell, PeaksTell, ToldByPairs, Settled}
+use Rattle.rewriting.specs.Theorems.{OrderEnds, OrderKept, DownEnds, MadeOne, ToldByPairs, OverlapsTell, PeaksTell, Settled}
+use Rattle.rewriting.specs.MachineTheorems.{MachineSteps, MachineValid, MachineEnds}
+use Rattle.critical_pairs.specs.Theorems.{OverlapsListed, FinitelyManyPairs, MostGeneralAlike}
 use Rattle.books.specs.Rows.{Reads, Of, rowWays}
 use Rattle.books.specs.Theorems.{OneBook, OneTerm, OneWays}
 use Rattle.equal.specs.declared.types.Judged.{Judged}
@@ -49,17 +51,34 @@ Starting b t = Peak b.rules t ⊎ ((i : ℕ) × (e : Eq) × (nth b.eqs i ≡ som
 abbrev pub Large : Book → ℕ → Type 0
 Large b w = (t u : Term) × Starting b t × Steps b.rules t u × TooFew w (size u)
 
--- rows say one book, one term, one list of ways; what goes down ends; one end is told by finitely many pairs, by the two results at
--- each place where two rules meet; in a book that settles terms are equal exactly if they come to one end, and each has just one
+-- the theorems that give the answers their worth
 pub record Theorems : Type 0 where
+  -- a row is the writing of at most one book, one term, one list of ways
   pub one_book : OneBook
   pub one_term : OneTerm
   pub one_ways : OneWays
-  pub down_ends : DownEnds
-  pub told_by_pairs_lem : ToldByPairs
-  pub overlaps_tell_lem : OverlapsTell
-  pub peaks_tell_lem : PeaksTell
-  pub settled : Settled
+  -- the order has no endless way down, and is kept by replacing, in places and by steps; so rules that go down end
+  pub order_ends : OrderEnds
+  pub order_kept : OrderKept
+  pub rules_down_end : DownEnds
+  -- two terms are made one by a least replacement, or by none
+  pub least_or_none : MadeOne
+  -- there is one end if the two results at each place where two rules meet come together, or if all that two steps from such a place
+  -- lead to does; and whether there is can be told
+  pub one_end_by_overlaps : OverlapsTell
+  pub one_end_by_steps_at_overlaps : PeaksTell
+  pub one_end_is_told : ToldByPairs
+  -- by finitely many pairs: the overlaps of the rules are a list, there is one end exactly if at each of these nothing makes the two left
+  -- sides one or both results come together for some most general replacement, and these differ in the names of letters alone
+  pub overlaps_are_listed : OverlapsListed
+  pub one_end_by_the_list : FinitelyManyPairs
+  pub most_general_are_alike : MostGeneralAlike
+  -- in a book that settles, terms are equal exactly if they come to one term, and each comes to just one at which nothing can be done
+  pub equal_terms_meet : Settled
+  -- the machine's moves are steps, keep what is valid, and go on until it is finished, which it comes to be
+  pub moves_are_steps : MachineSteps
+  pub moves_keep_validity : MachineValid
+  pub moves_end : MachineEnds
 
 -- `judge`, of a book s and ways h with w work words
 pub record JudgedPost (s h : List ℕ) (w : ℕ) (r : Judged) : Type 0 where
@@ -76,11 +95,11 @@ ToldSays s h x y Different = (b : Book) × (t u : Term) × JudgedSays s h Settle
     × (Equal b.eqs t u → ⊥)
 ToldSays s h x y Unsettled = JudgedSays s h Settles → ⊥
 ToldSays s h x y NoTerm = (b : Book) × JudgedSays s h Settles × Reads s b × ((t u : Term) → Of b.parts x t → Of b.parts y u → ⊥)
-ToldSays s h x y Full = JudgedSays s h Settles
+ToldSays s h x y Full = (b : Book) × (t u : Term) × JudgedSays s h Settles × Reads s b × Of b.parts x t × Of b.parts y u
 ToldSays s h x y Unjudged = Unit {0}
 ToldSays s h x y Small = Unit {0}
 
--- steps lead from one of the terms to one with too many letters and signs
+-- steps lead from a term with the words x or y to one with too many letters and signs
 abbrev pub Grows : List ℕ → List ℕ → List ℕ → ℕ → Type 0
 Grows s x y w = (b : Book) × (t u : Term) × Reads s b × (Of b.parts x t ⊎ Of b.parts y t) × Steps b.rules t u
     × TooFew w (size u)

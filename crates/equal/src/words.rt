@@ -7,7 +7,7 @@ ghost use Rattle.equal.specs.Judging.{SharedFor};
 use engine::work::{LEAST, Work, share_out};
 
 // Whether there are fewer work words than the least, and 64 for each word of two rows of these lengths together. No sum overflows.
-pub fn too_few(work: usize, one: usize, other: usize) -> bool
+fn too_few(work: usize, one: usize, other: usize) -> bool
     ensures { Tells result (TooFew work (one + other)) }
 {
     work < LEAST || (work - LEAST) / 64 < one.saturating_add(other)

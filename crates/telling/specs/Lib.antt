@@ -1,2 +1,0 @@
--- Comparing pairs: the definitions that the contracts cite.
-pub mod Session
