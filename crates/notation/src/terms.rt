@@ -116,7 +116,8 @@ impl<'a> Parser<'a> {
     pub(crate) fn term(&mut self, row: &mut Vec<u32>, limits: Limits) -> Result<(), Error>
         ensures { vec_len row.new ≤ vec_len row.old + 2 * limits.symbols }
     {
-        let mut open = Vec::new(self.cursor.heap);
+        // With space for a term of nothing but signs in each other, so that it never grows.
+        let mut open = Vec::with_capacity(self.cursor.heap, limits.symbols)?;
         // Stays a counted loop: it ends with the term, or at the limit of its symbols.
         for _turn in 0..limits.symbols {
             match self.symbol(row, limits.letters)? {
