@@ -1,5 +1,5 @@
 //! Compares terms: by chains of equations through terms of up to nine letters and signs, and in a settled book by their ends.
-use crate::judge::{Ends, Follower, Judged, NINE, Verdict};
+use crate::judge::{Ends, Follower, Judged, Largest, NINE, Verdict};
 use crate::rows::{Book, read_term};
 use crate::terms::{Bindings, Node, Term, Terms};
 use std::collections::{HashMap, HashSet};
@@ -77,22 +77,37 @@ impl Links {
     }
 }
 
-/// For each pair `same`, `different`, `unsettled` or `no term`; or `undecided` with the answers that are left, such as
+/// What is told of a pair: `same`, `different`, `unsettled` or `no term`; or `undecided` with the answers that are left, such as
 /// `undecided,same,unsettled` where only `different` is ruled out.
-pub fn compare(terms: &mut Terms, judged: &Judged, pairs: &[[Vec<u32>; 2]]) -> Vec<&'static str> {
+pub struct Compared {
+    pub answer: &'static str,
+    /// The largest term to which steps lead from one of the two. None is wanted where the book does not settle or one of the two is no term.
+    pub largest: Largest,
+}
+
+pub fn compare(terms: &mut Terms, judged: &Judged, pairs: &[[Vec<u32>; 2]]) -> Vec<Compared> {
     let (settles, book) = match judged {
-        Judged { verdict: Verdict::Settles, book: Some(book) } => (true, book),
-        Judged { verdict: Verdict::Undecided(other), book: Some(book) } if may_settle(other) => (false, book),
-        _ => return vec!["unsettled"; pairs.len()],
+        Judged { verdict: Verdict::Settles, book: Some(book), .. } => (true, book),
+        Judged { verdict: Verdict::Undecided(other), book: Some(book), .. } if may_settle(other) => (false, book),
+        _ => return pairs.iter().map(|_| Compared { answer: "unsettled", largest: Largest::NONE }).collect(),
     };
     let mut follower = Follower::new(book.rules.clone());
     let mut links = Links::new(book, fillers(terms, book));
-    let answers = pairs.iter().map(|[left, right]| match (read_term(terms, book, left), read_term(terms, book, right)) {
-        (Some(t), Some(u)) => compare_terms(terms, &mut follower, &mut links, settles, t, u),
-        _ if settles => "no term",
-        _ => "undecided,no term,unsettled",
+    let compared = pairs.iter().map(|[left, right]| {
+        let both = [read_term(terms, book, left), read_term(terms, book, right)];
+        let answer = match both {
+            [Some(t), Some(u)] => compare_terms(terms, &mut follower, &mut links, settles, t, u),
+            _ if settles => "no term",
+            _ => "undecided,no term,unsettled",
+        };
+        // No term is too large where the two rows are not both terms.
+        let largest = match both {
+            [Some(t), Some(u)] => follower.walk(terms, t).largest.or(follower.walk(terms, u).largest),
+            _ => Largest::NONE,
+        };
+        Compared { answer, largest }
     });
-    answers.collect()
+    compared.collect()
 }
 
 fn may_settle(other: &Option<Box<Verdict>>) -> bool {

@@ -54,17 +54,46 @@ pub enum Ends {
     Unknown,
 }
 
+/// How many letters and signs the largest of some terms has, as far as they were followed: where that was not all, at least so many.
+#[derive(Clone, Copy)]
+pub struct Largest {
+    pub size: u64,
+    pub all: bool,
+}
+
+impl Largest {
+    /// Of no terms, since nothing has to be followed.
+    pub const NONE: Largest = Largest { size: 0, all: true };
+
+    pub fn or(self, other: Largest) -> Largest {
+        Largest { size: self.size.max(other.size), all: self.all && other.all }
+    }
+}
+
+impl fmt::Display for Largest {
+    fn fmt(&self, out: &mut fmt::Formatter<'_>) -> fmt::Result {
+        write!(out, "{}{}", self.size, if self.all { "" } else { "+" })
+    }
+}
+
+/// What is known of all terms to which steps lead from one, itself among them.
+#[derive(Clone, Copy)]
+pub struct Walk {
+    pub ends: Ends,
+    pub largest: Largest,
+}
+
 /// Follows the rules of a book from terms.
 pub struct Follower {
     rules: Vec<Sides>,
     steps: HashMap<Term, Rc<[Term]>>,
-    ends: HashMap<Term, Ends>,
+    walks: HashMap<Term, Walk>,
     most: usize,
 }
 
 impl Follower {
     pub fn new(rules: Vec<Sides>) -> Self {
-        Follower { rules, steps: HashMap::new(), ends: HashMap::new(), most: MOST_TERMS }
+        Follower { rules, steps: HashMap::new(), walks: HashMap::new(), most: MOST_TERMS }
     }
 
     /// All terms to which one step leads.
@@ -91,19 +120,23 @@ impl Follower {
 
     /// Whether no more terms are followed than those that are known.
     fn is_full(&self) -> bool {
-        self.ends.len() > self.most
+        self.walks.len() > self.most
     }
 
-    pub fn ends(&mut self, terms: &mut Terms, t: Term) -> Ends {
-        if let Some(&known) = self.ends.get(&t) {
+    pub fn walk(&mut self, terms: &mut Terms, t: Term) -> Walk {
+        if let Some(&known) = self.walks.get(&t) {
             return known;
         }
-        if terms.size(t) > MOST_SIZE || self.is_full() {
-            return Ends::Unknown;
+        let size = terms.size(t);
+        if size > MOST_SIZE || self.is_full() {
+            return Walk { ends: Ends::Unknown, largest: Largest { size, all: false } };
         }
         let mut found = None;
+        let mut largest = Largest { size, all: true };
         for &u in self.steps(terms, t).iter() {
-            found = Some(match (found, self.ends(terms, u)) {
+            let walk = self.walk(terms, u);
+            largest = largest.or(walk.largest);
+            found = Some(match (found, walk.ends) {
                 (None, ends) => ends,
                 (Some(Ends::Several), _) | (_, Ends::Several) => Ends::Several,
                 (Some(Ends::One(v)), Ends::One(w)) if v != w => Ends::Several,
@@ -111,9 +144,13 @@ impl Follower {
                 _ => Ends::Unknown,
             });
         }
-        let ends = found.unwrap_or(Ends::One(t));
-        self.ends.insert(t, ends);
-        ends
+        let walk = Walk { ends: found.unwrap_or(Ends::One(t)), largest };
+        self.walks.insert(t, walk);
+        walk
+    }
+
+    pub fn ends(&mut self, terms: &mut Terms, t: Term) -> Ends {
+        self.walk(terms, t).ends
     }
 }
 
@@ -229,26 +266,40 @@ fn ways_show(terms: &Terms, book: &Book, ways: &Ways) -> bool {
 pub struct Judged {
     pub verdict: Verdict,
     pub book: Option<Book>,
+    /// The largest term to which steps lead from a side of an equation or from a place where two rules meet. None is wanted where there is no
+    /// book or a rule goes up.
+    pub largest: Largest,
 }
 
 pub fn judge(terms: &mut Terms, book_words: &[u32], way_words: &[u32]) -> Judged {
     let Some(book) = read_book(terms, book_words) else {
-        return Judged { verdict: Verdict::NoBook, book: None };
+        return Judged { verdict: Verdict::NoBook, book: None, largest: Largest::NONE };
     };
-    let verdict = judge_book(terms, &book, way_words);
-    Judged { verdict, book: Some(book) }
-}
-
-fn judge_book(terms: &mut Terms, book: &Book, way_words: &[u32]) -> Verdict {
     let mut order = Order::new(&book.ranks);
     if let Some(n) = book.rules.iter().position(|&(left, right)| !order.greater(terms, left, right)) {
-        return Verdict::Up(n);
+        return Judged { verdict: Verdict::Up(n), book: Some(book), largest: Largest::NONE };
     }
     let mut follower = Follower::new(book.rules.clone());
-    let Some(certain) = one_end(terms, book, &mut follower) else {
+    let verdict = judge_rules(terms, &book, &mut follower, way_words);
+    let largest = largest(terms, &book, &mut follower);
+    Judged { verdict, book: Some(book), largest }
+}
+
+// A rule meets itself at its own top, and so the left sides are among the places where two rules meet.
+fn largest(terms: &mut Terms, book: &Book, follower: &mut Follower) -> Largest {
+    let sides = book.equations.iter().flat_map(|&(left, right)| [left, right]);
+    let mut all: Vec<Option<Term>> = sides.chain(book.rules.iter().map(|&(left, _)| left)).map(Some).collect();
+    all.extend(peaks(terms, &book.rules));
+    let largest = all.into_iter().map(|t| t.map_or(Largest { size: 0, all: false }, |t| follower.walk(terms, t).largest));
+    largest.fold(Largest::NONE, Largest::or)
+}
+
+// Where all rules go down.
+fn judge_rules(terms: &mut Terms, book: &Book, follower: &mut Follower, way_words: &[u32]) -> Verdict {
+    let Some(certain) = one_end(terms, book, follower) else {
         return Verdict::Apart;
     };
-    let other = if_one_end(terms, book, &mut follower, way_words);
+    let other = if_one_end(terms, book, follower, way_words);
     match other {
         Some(Verdict::Apart) => Verdict::Apart,
         Some(other) if certain => other,

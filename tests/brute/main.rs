@@ -1,10 +1,14 @@
 //! A second judge of books, for checks from outside. It shares nothing with the library, and tries everything within nine letters and
 //! signs.
 //!
-//!     brute make FOLDER COUNT          writes COUNT books FOLDER/N.rows with ways, and pairs of terms FOLDER/N.pairs
+//!     brute make FOLDER COUNT          writes COUNT books FOLDER/N.rows with ways, and pairs of terms FOLDER/N.pairs; and both in the
+//!                                      readable form, FOLDER/N.book and FOLDER/N.names, or else in FOLDER/N.unwritten why not
 //!     brute take FOLDER TEXT..         the same for the books in the texts, by their names, in the readable form
 //!     brute judge BOOK                 prints the answer on a book: `undecided`, with the answers that are left, if nine are too few
 //!     brute tell BOOK PAIRS            prints an answer for each pair
+//!
+//! After each answer it prints, parted by tabs, how many letters and signs the largest term has to which steps lead from what is judged or
+//! compared, with a `+` where not all could be followed; and how many words the book, its ways and the pair have.
 mod compare;
 mod faults;
 mod judge;
@@ -31,12 +35,13 @@ fn read(name: &str) -> Result<String, String> {
     fs::read_to_string(name).map_err(|e| format!("{name}: {e}"))
 }
 
-fn judge_file(terms: &mut Terms, name: &str) -> Result<Judged, String> {
+// Also how many words the book and its ways have.
+fn judge_file(terms: &mut Terms, name: &str) -> Result<(Judged, usize), String> {
     let text = read(name)?;
     let mut lines = text.lines();
     let book = words(lines.next().unwrap_or(""))?;
     let ways = words(lines.next().unwrap_or(""))?;
-    Ok(judge::judge(terms, &book, &ways))
+    Ok((judge::judge(terms, &book, &ways), book.len() + ways.len()))
 }
 
 fn read_pairs(name: &str) -> Result<Vec<[Vec<u32>; 2]>, String> {
@@ -62,13 +67,15 @@ fn run() -> Result<(), String> {
             Ok(())
         }
         ["judge", book] => {
-            println!("{}", judge_file(&mut terms, book)?.verdict);
+            let (judged, count) = judge_file(&mut terms, book)?;
+            println!("{}\t{}\t{count}", judged.verdict, judged.largest);
             Ok(())
         }
         ["tell", book, pairs] => {
-            let judged = judge_file(&mut terms, book)?;
-            for answer in compare::compare(&mut terms, &judged, &read_pairs(pairs)?) {
-                println!("{answer}");
+            let (judged, count) = judge_file(&mut terms, book)?;
+            let pairs = read_pairs(pairs)?;
+            for (told, [left, right]) in compare::compare(&mut terms, &judged, &pairs).iter().zip(&pairs) {
+                println!("{}\t{}\t{}", told.answer, told.largest, count + left.len() + right.len());
             }
             Ok(())
         }

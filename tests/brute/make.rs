@@ -3,12 +3,14 @@
 use crate::compare::{Links, fillers};
 use crate::judge::renamed;
 use crate::order::Order;
-use crate::rows::{Book, Sides, Ways, write_book, write_term, write_ways};
+use crate::rows::{Book, Sides, Ways, read_book, read_term, read_ways, write_book, write_term, write_ways};
 use crate::terms::{Bindings, Node, Term, Terms};
-use crate::text::read_text;
+use crate::text::{read_text, write_pair, write_text};
 use std::fs;
 
 const PAIRS: usize = 8;
+
+type Pair = [Vec<u32>; 2];
 
 /// Numbers by chance (splitmix), always the same for a seed.
 pub struct Random(u64);
@@ -93,8 +95,8 @@ pub fn make(folder: &str, count: usize) -> Result<(), String> {
         let book = Book { parts: Vec::new(), ranks: Vec::new(), equations: Vec::new(), rules: Vec::new() };
         let mut maker = Maker { random: Random(n as u64), terms: Terms::default(), book, ways: Vec::new() };
         let (kind, variant) = kind_of(n);
-        let (rows, pairs) = maker.make(kind, variant);
-        write(folder, &format!("{n:03}"), &rows, &pairs)?;
+        let (book, ways, pairs) = maker.make(kind, variant);
+        write(folder, &format!("{n:03}"), &book, &ways, &pairs)?;
     }
     Ok(())
 }
@@ -107,19 +109,37 @@ pub fn take(folder: &str, name: &str, text: &str) -> Result<(), String> {
     let mut maker = Maker { random: Random(seed), terms, book, ways };
     let pairs = maker.pairs();
     let (book, ways) = (write_book(&maker.terms, &maker.book), write_ways(&maker.terms, &maker.ways));
-    write(folder, name, &rows(&book, &ways), &pairs)
+    write(folder, name, &book, &ways, &pairs)
 }
 
-fn write(folder: &str, name: &str, rows: &str, pairs: &str) -> Result<(), String> {
-    for (ending, text) in [("rows", rows), ("pairs", pairs)] {
+fn write(folder: &str, name: &str, book: &[u32], ways: &[u32], pairs: &[Pair]) -> Result<(), String> {
+    let pair_lines: String = pairs.iter().map(|[left, right]| format!("{} | {}\n", line(left), line(right))).collect();
+    let mut files = vec![("rows", format!("{}\n{}\n", line(book), line(ways))), ("pairs", pair_lines)];
+    match readable(book, ways, pairs) {
+        Ok((book, pairs)) => files.extend([("book", book), ("names", pairs)]),
+        Err(reason) => files.push(("unwritten", format!("{reason}\n"))),
+    }
+    for (ending, text) in files {
         let name = format!("{folder}/{name}.{ending}");
         fs::write(&name, text).map_err(|e| format!("{name}: {e}"))?;
     }
     Ok(())
 }
 
-fn rows(book: &[u32], ways: &[u32]) -> String {
-    format!("{}\n{}\n", line(book), line(ways))
+// The readable form of rows and of pairs, or why there is none. A pair of which one is no term is a comment.
+fn readable(book: &[u32], ways: &[u32], pairs: &[Pair]) -> Result<(String, String), &'static str> {
+    let mut terms = Terms::default();
+    let book = read_book(&mut terms, book).ok_or("the words are no book")?;
+    let ways = read_ways(&mut terms, &book, ways).ok_or("the words are no ways")?;
+    let text = write_text(&terms, &book, &ways).ok_or("a way has a letter that no text can name")?;
+    let mut lines = String::new();
+    for [left, right] in pairs {
+        match (read_term(&mut terms, &book, left), read_term(&mut terms, &book, right)) {
+            (Some(t), Some(u)) => lines += &write_pair(&terms, t, u),
+            _ => lines += "# no term\n",
+        }
+    }
+    Ok((text, lines))
 }
 
 fn line(words: &[u32]) -> String {
@@ -129,7 +149,7 @@ fn line(words: &[u32]) -> String {
 
 impl Maker {
     // The rows of a book and its ways, and pairs of terms.
-    fn make(&mut self, kind: Kind, variant: usize) -> (String, String) {
+    fn make(&mut self, kind: Kind, variant: usize) -> (Vec<u32>, Vec<u32>, Vec<Pair>) {
         self.signs();
         self.equations();
         let complete = match kind {
@@ -156,7 +176,7 @@ impl Maker {
             Kind::Broken => self.garble_ways(&mut ways, variant),
             _ => {}
         }
-        (rows(&book, &ways), pairs)
+        (book, ways, pairs)
     }
 
     // 2 to 4 signs, at least one of them with parts.
@@ -299,10 +319,10 @@ impl Maker {
 
     // Pairs of terms: any two, or such that some equations lead from one to the other. One has a letter at the limit, or beyond it, and
     // few are no terms.
-    fn pairs(&mut self) -> String {
+    fn pairs(&mut self) -> Vec<Pair> {
         let fillers = fillers(&mut self.terms, &self.book);
         let mut links = Links::new(&self.book, fillers);
-        let mut text = String::new();
+        let mut pairs = Vec::new();
         for n in 0..PAIRS {
             let mut sides = [self.term(6, 2); 2];
             sides[1] = if n % 2 == 0 { self.term(6, 2) } else { self.walk(&mut links, sides[0]) };
@@ -317,9 +337,9 @@ impl Maker {
                 let (side, variant) = (self.random.below(2), self.random.below(5));
                 self.garble(&mut rows[side], variant);
             }
-            text += &format!("{} | {}\n", line(&rows[0]), line(&rows[1]));
+            pairs.push(rows);
         }
-        text
+        pairs
     }
 
     fn walk(&mut self, links: &mut Links, from: Term) -> Term {

@@ -1,7 +1,11 @@
-//! Reads books in the readable form, of which docs/BOOKS.md tells. It is for the example books, which have no faults, and so it gives
-//! no places of faults.
+//! Reads and writes books in the readable form, of which docs/BOOKS.md tells. What is read are the example books, which have no faults, and
+//! so it gives no places of faults.
 use crate::rows::{Book, Sides, Ways};
-use crate::terms::{Term, Terms};
+use crate::terms::{Node, Term, Terms};
+
+// A text can name so many letters; and it names all that may stand in equations, rules and pairs.
+const MOST_LETTERS: u32 = 256;
+const LEAST_LETTERS: u32 = 16;
 
 /// The words and marks of a text, without its comments.
 fn tokens(text: &str) -> Vec<String> {
@@ -138,4 +142,44 @@ pub fn read_text(terms: &mut Terms, text: &str) -> Result<(Book, Ways), String> 
     let tokens = tokens(text);
     let reader = Reader { rest: &tokens, signs: Vec::new(), letters: Vec::new(), parts: Vec::new(), ranks: Vec::new() };
     reader.book(terms)
+}
+
+fn write_term(terms: &Terms, t: Term) -> String {
+    match terms.node(t) {
+        Node::Letter(x) => format!("x{x}"),
+        Node::Sign(f, parts) if parts.is_empty() => format!("f{f}"),
+        Node::Sign(f, parts) => {
+            let parts: Vec<String> = parts.iter().map(|&p| write_term(terms, p)).collect();
+            format!("f{f}({})", parts.join(", "))
+        }
+    }
+}
+
+/// A book and its ways in the readable form; `None` if a way has a letter that no text can name.
+pub fn write_text(terms: &Terms, book: &Book, ways: &Ways) -> Option<String> {
+    let last = ways.iter().flatten().flat_map(|&t| terms.letters(t)).max().unwrap_or(0);
+    if last >= MOST_LETTERS {
+        return None;
+    }
+    let mut text = "signs".to_string();
+    for (f, (parts, rank)) in book.parts.iter().zip(&book.ranks).enumerate() {
+        text += &format!(" f{f}/{parts} rank {rank}");
+    }
+    text += "\nletters";
+    (0..LEAST_LETTERS.max(last + 1)).for_each(|x| text += &format!(" x{x}"));
+    text += "\nequations\n";
+    for &(left, right) in &book.equations {
+        text += &format!("  {} = {}\n", write_term(terms, left), write_term(terms, right));
+    }
+    text += "rules\n";
+    for (&(left, right), way) in book.rules.iter().zip(ways) {
+        text += &format!("  {} -> {}\n", write_term(terms, left), write_term(terms, right));
+        way.iter().for_each(|&t| text += &format!("    = {}\n", write_term(terms, t)));
+    }
+    Some(text)
+}
+
+/// A pair of terms on a line.
+pub fn write_pair(terms: &Terms, t: Term, u: Term) -> String {
+    format!("{} = {}\n", write_term(terms, t), write_term(terms, u))
 }
