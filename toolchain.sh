@@ -4,4 +4,5 @@ command -v rt >/dev/null || {
     echo "The Rattle toolchain's command rt is not on the PATH. Install $kit." >&2
     exit 1
 }
-[ "$(rt version)" = "$kit" ] || echo "This is $(rt version); the proofs were made with $kit." >&2
+found_kit=$(rt version)
+[ "$found_kit" = "$kit" ] || echo "This is $found_kit; the proofs were made with $kit." >&2
