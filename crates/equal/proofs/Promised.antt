@@ -83,7 +83,7 @@ judged_post {w = w} given enough found =
       says = j.says;
       room = λ e b reads. large b w given.0 (j.room e b reads);
       few = (λ few. absurd (enough few), λ e. absurd (j.enough e));
-      parts = theorems;
+      theorems = theorems;
     }
 
 pub judged_few : (s h : List ℕ) (w : ℕ) → TooFew w (length s + length h) → JudgedPost s h w Few
@@ -91,7 +91,7 @@ judged_few s h w few = record {
   says = tt;
   room = λ e. cc;
   few = (λ _. refl, λ _. few);
-  parts = theorems;
+  theorems = theorems;
 }
 
 module _ (s h x y : List ℕ) (w : ℕ) where
@@ -102,7 +102,7 @@ module _ (s h x y : List ℕ) (w : ℕ) where
     full = λ e. cc;
     unjudged = λ e. cc;
     small = (λ _. refl, λ _. few);
-    parts = theorems;
+    theorems = theorems;
   }
 
   module _ (enough : TooFew w (length s + (length h + (length x + length y))) → ⊥) where
@@ -113,7 +113,7 @@ module _ (s h x y : List ℕ) (w : ℕ) where
       full = λ e. cc;
       unjudged = λ e. cc;
       small = (λ small. absurd (enough small), λ e. cc);
-      parts = theorems;
+      theorems = theorems;
     }
 
     at : (r : Judged) → RefusedSays s h w r → ToldPost s h x y w (not_settled r)
@@ -128,7 +128,7 @@ module _ (s h x y : List ℕ) (w : ℕ) where
       full = λ e. cc;
       unjudged = λ e. p.room refl;
       small = (λ small. absurd (enough small), λ e. cc);
-      parts = theorems;
+      theorems = theorems;
     }
     at Few p = absurd (enough (omega (arith, p.few refl)))
 
@@ -153,7 +153,7 @@ module _ (s h x y : List ℕ) (w : ℕ) where
         full = full;
         unjudged = λ e. absurd (judged e);
         small = (λ few. absurd (enough few), λ e. absurd (words e));
-        parts = theorems;
+        theorems = theorems;
       }
 
       rows : (a : Told) → RowsSay b (most_parts w) x y a → ToldPost s h x y w a

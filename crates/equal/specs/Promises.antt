@@ -85,7 +85,7 @@ pub record JudgedPost (s h : List ℕ) (w : ℕ) (r : Judged) : Type 0 where
   pub says : JudgedSays s h r
   pub room : r ≡ Room → (b : Book) → Reads s b → Large b w
   pub few : TooFew w (length s + length h) ↔ (r ≡ Few)
-  pub parts : Theorems
+  pub theorems : Theorems
 
 -- what is said of two terms with the words x and y
 abbrev pub ToldSays : List ℕ → List ℕ → List ℕ → List ℕ → Told → Type 0
@@ -110,4 +110,4 @@ pub record ToldPost (s h x y : List ℕ) (w : ℕ) (r : Told) : Type 0 where
   pub full : r ≡ Full → Grows s x y w
   pub unjudged : r ≡ Unjudged → JudgedSays s h Room × ((b : Book) → Reads s b → Large b w)
   pub small : TooFew w (length s + (length h + (length x + length y))) ↔ (r ≡ Small)
-  pub parts : Theorems
+  pub theorems : Theorems
