@@ -27,9 +27,10 @@ follow() {
     total=$(grep -c '^[^#]*:' crates.txt)
     count=0
     echo "test.sh: proving $total crates" >&2
+    held=no last=
     while IFS= read -r line; do
-        [ ! -f "$folder/last" ] || cat "$folder/last"
-        printf '%s\n' "$line" >"$folder/last"
+        [ $held = no ] || printf '%s\n' "$last"
+        held=yes last=$line
         case $line in
         "rt: "*" proved" | "rt: "*" is kept: "*) ;;
         *) continue ;;
@@ -45,6 +46,7 @@ follow() {
             ;;
         esac
     done
+    printf '%s\n' "$last" >"$folder/last"
 }
 {
     rt ci 2>&1 && echo 0 >"$folder/status" || echo $? >"$folder/status"

@@ -4,7 +4,7 @@ use Rattle.rewriting.specs.Terms.{Term, letter, sign, Terms, none1, and1, size, 
 use Rattle.rewriting.specs.Rules.{Part, itself, in_part, Parts, in_this, in_later}
 use Rattle.rewriting.proofs.Glueing.{size_some}
 use Rattle.rewriting.proofs.Members.{Mem, first, later, mem_left, mem_right}
-use Rattle.critical_pairs.specs.OverlapList.{index, indexes, Position, PositionIn, under, in_first, in_rest, positions, positions_in}
+use Rattle.critical_pairs.specs.OverlapList.{index, indexes, Position, PositionIn, under, at_head, at_tail, positions, positions_in}
 use Rattle.critical_pairs.proofs.Lists.{mem_map, all_map, Ordered, ordered_append, ordered_map}
 
 -- a part starts within the term
@@ -49,8 +49,8 @@ module _ (f : ℕ) (vs : Terms) where
     sign_listed (in_part p) = later (mem_map under (sign_listed_in p))
 
     sign_listed_in : {ts : Terms} (p : Parts (sign f vs) ts) → Mem (record { f = f; vs = vs; stands = p }) (positions_in ts)
-    sign_listed_in (in_this {ts = ts} p) = mem_left (map in_rest (positions_in ts)) (mem_map in_first (sign_listed p))
-    sign_listed_in (in_later {t = t} p) = mem_right (map in_first (positions t)) (mem_map in_rest (sign_listed_in p))
+    sign_listed_in (in_this {ts = ts} p) = mem_left (map at_tail (positions_in ts)) (mem_map at_head (sign_listed p))
+    sign_listed_in (in_later {t = t} p) = mem_right (map at_head (positions t)) (mem_map at_tail (sign_listed_in p))
 
 pub position_listed : {t : Term} (a : Position t) → Mem a (positions t)
 position_listed a = sign_listed a.f a.vs a.stands
@@ -72,12 +72,12 @@ mutual
 
   positions_in_ordered : (ts : Terms) → Ordered (StartsBeforeIn {ts = ts}) (positions_in ts)
   positions_in_ordered none1 = tt
-  positions_in_ordered (and1 t ts) = ordered_append StartsBeforeIn (map in_first (positions t)) (map in_rest (positions_in ts))
-      (ordered_map StartsBefore StartsBeforeIn in_first (λ a b l. l) (positions t) (positions_ordered t))
-      (ordered_map StartsBeforeIn StartsBeforeIn in_rest (λ a b l. omega (arith, l)) (positions_in ts) (positions_in_ordered ts))
-      (λ a b m n. all_map in_rest (λ (c : PositionIn (and1 t ts)). indexes a.stands < indexes c.stands) (positions_in ts)
+  positions_in_ordered (and1 t ts) = ordered_append StartsBeforeIn (map at_head (positions t)) (map at_tail (positions_in ts))
+      (ordered_map StartsBefore StartsBeforeIn at_head (λ a b l. l) (positions t) (positions_ordered t))
+      (ordered_map StartsBeforeIn StartsBeforeIn at_tail (λ a b l. omega (arith, l)) (positions_in ts) (positions_in_ordered ts))
+      (λ a b m n. all_map at_tail (λ (c : PositionIn (and1 t ts)). indexes a.stands < indexes c.stands) (positions_in ts)
       (λ c l. first_low a m (indexes c.stands)) b n)
     where
-      first_low : (a : PositionIn (and1 t ts)) → Mem a (map in_first (positions t)) → (k : ℕ) → indexes a.stands < size t + k
-      first_low a m k = all_map in_first (λ (d : PositionIn (and1 t ts)). indexes d.stands < size t + k) (positions t)
+      first_low : (a : PositionIn (and1 t ts)) → Mem a (map at_head (positions t)) → (k : ℕ) → indexes a.stands < size t + k
+      first_low a m k = all_map at_head (λ (d : PositionIn (and1 t ts)). indexes d.stands < size t + k) (positions t)
           (λ d l. omega (arith, index_low d.stands)) a m

@@ -29,11 +29,11 @@ pub record PositionIn (ts : Terms) : Type 0 where
 abbrev pub under : {f : ℕ} {ts : Terms} → PositionIn ts → Position (sign f ts)
 under a = record { f = a.f; vs = a.vs; stands = in_part a.stands }
 
-abbrev pub in_first : {t : Term} {ts : Terms} → Position t → PositionIn (and1 t ts)
-in_first a = record { f = a.f; vs = a.vs; stands = in_this a.stands }
+abbrev pub at_head : {t : Term} {ts : Terms} → Position t → PositionIn (and1 t ts)
+at_head a = record { f = a.f; vs = a.vs; stands = in_this a.stands }
 
-abbrev pub in_rest : {t : Term} {ts : Terms} → PositionIn ts → PositionIn (and1 t ts)
-in_rest a = record { f = a.f; vs = a.vs; stands = in_later a.stands }
+abbrev pub at_tail : {t : Term} {ts : Terms} → PositionIn ts → PositionIn (and1 t ts)
+at_tail a = record { f = a.f; vs = a.vs; stands = in_later a.stands }
 
 -- all of them, from the top and the left
 abbrev mutual
@@ -43,7 +43,7 @@ abbrev mutual
 
   pub positions_in : (ts : Terms) → List (PositionIn ts)
   positions_in none1 = []
-  positions_in (and1 t ts) = map in_first (positions t) ++ map in_rest (positions_in ts)
+  positions_in (and1 t ts) = map at_head (positions t) ++ map at_tail (positions_in ts)
 
 -- rule p, which is rule i, and rule q, which is rule j, whose left side is put on the part at a position of p's left side. (The crate
 -- `overlaps` calls so the numbers by which its code finds one.)

@@ -40,16 +40,16 @@ theorems = record {
   order_kept = order_kept_lem;
   rules_down_end = down_ends;
   least_or_none = made_one;
-  one_end_is_told = told_by_pairs_lem;
   one_end_by_overlaps = overlaps_tell_lem;
   one_end_by_steps_at_overlaps = peaks_tell_lem;
+  one_end_is_told = told_by_pairs_lem;
+  overlaps_are_listed = overlaps_are_listed;
+  one_end_by_the_list = finitely_many_pairs_tell;
+  most_general_are_alike = most_general_alike_holds;
   equal_terms_meet = settled;
   moves_are_steps = machine_steps_lem;
   moves_keep_validity = machine_valid_lem;
   moves_end = machine_ends_lem;
-  overlaps_are_listed = overlaps_are_listed;
-  one_end_by_the_list = finitely_many_pairs_tell;
-  most_general_are_alike = most_general_alike_holds;
 }
 
 -- enough words are shared out

@@ -18,7 +18,7 @@ mod words;
 use judging::judge_in;
 pub use session::Session;
 pub use types::{Judged, Told};
-use words::share_for;
+use words::{share_for, too_few_with_terms};
 
 // Whether a book settles its equations, by its words and those of its ways; or the first thing that fails.
 // Stays slices side by side, in both calls: callers lend each by itself.
@@ -42,5 +42,9 @@ pub fn tell<'a>(
     ensures { ToldPost book.now ways.now one.now other.now
         (length work.old) result }
 {
+    // What a session would say of them is said at once, since the book need not be judged for it.
+    if too_few_with_terms(work.len(), book.len(), ways.len(), one.len(), other.len()) {
+        return Told::Small;
+    }
     Session::new(book, ways, work).tell(one, other)
 }
