@@ -20,8 +20,11 @@ use Rattle.equal.specs.declared.settled_book.Settled.{Settled}
 use Rattle.equal.specs.declared.finding.Comparer.{Comparer}
 use Rattle.equal.specs.declared.finding.Finding.{Finding}
 use Rattle.equal.specs.declared.finding.Finding.TheVariants as finding
-use Rattle.equal.specs.Promises.{JudgedSays, JudgedPost, Large}
+use Rattle.equal.specs.declared.session.Session.{Session}
+use Rattle.equal.specs.declared.types.Told.{Told as Answer}
+use Rattle.equal.specs.Promises.{JudgedSays, JudgedPost, Large, ToldPost}
 use Rattle.equal.specs.Sessions.{SettledSays, RefusedSays, FindingSays}
+use Rattle.equal.specs.SessionRows.{SessionOn}
 use Rattle.equal.proofs.Stable.{Stable, by_dec, twice, dec_words, stable_reads}
 use Rattle.equal.proofs.Deciding.{stable_down, stable_settles}
 use Rattle.equal.proofs.Excluding.{excludes}
@@ -103,3 +106,9 @@ module _ {s h : List ℕ} {w : ℕ} where
     room = λ e. (subst (JudgedSays s h) e p.says, p.room e);
     excluded = λ few room. excludes s h j other room few p.says;
   }
+
+-- what is promised for the rows that a session has is promised for those that it is on
+pub told_on : {k : Session} {s h x y : List ℕ} {w : ℕ} {r : Answer} → SessionOn k s h w → ToldPost k.book.now k.ways.now x y k.lent r →
+    ToldPost s h x y w r
+told_on {k} {s} {h} {x} {y} {r = r} on p = subst (λ (n : ℕ). ToldPost s h x y n r) on.lent
+    (subst₂ (λ (t g : List ℕ). ToldPost t g x y k.lent r) on.book on.ways p)

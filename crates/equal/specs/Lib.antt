@@ -3,3 +3,4 @@ pub mod Promises
 pub mod Serving
 pub mod Judging
 pub mod Sessions
+pub mod SessionRows

@@ -19,15 +19,14 @@ pub struct Session<'a, 'w> {
 }
 
 impl<'a, 'w> Session<'a, 'w> {
-    ghost use Rattle.std.specs.Prelude.{◌≡◌, length};
+    ghost use Rattle.std.specs.Prelude.{List, ℕ, length};
     ghost use Rattle.equal.specs.Promises.{ToldPost};
+    ghost use Rattle.equal.specs.SessionRows.{SessionOn};
 
     // Judges a book by its words and those of its ways, in words that are lent for work. Whatever the answer is, even that there are too few
     // of these, it is kept for `tell`.
     pub fn new(book: &'a [u32], ways: &'a [u32], work: &'w mut [u32]) -> Session<'a, 'w>
-        ensures book { result.book.now ≡ book.now }
-        ensures ways { result.ways.now ≡ ways.now }
-        ensures lent { result.lent ≡ length work.old }
+        ensures { SessionOn result book.now ways.now (length work.old) }
     {
         let lent = work.len();
         let finding = find(book, ways, work);
@@ -42,10 +41,8 @@ impl<'a, 'w> Session<'a, 'w> {
     // Whether two terms are equal by the equations of the book, if it settles them: what `equal::tell` says of them. The session is as
     // ready for the next two as it was for these.
     pub fn tell(&mut self, one: &[u32], other: &[u32]) -> Told
-        ensures book { self.new.book.now ≡ self.old.book.now }
-        ensures ways { self.new.ways.now ≡ self.old.ways.now }
-        ensures lent { self.new.lent ≡ self.old.lent }
-        ensures told { ToldPost self.old.book.now self.old.ways.now one.now other.now self.old.lent result }
+        ensures same { (s h : List ℕ) (w : ℕ) → SessionOn self.old s h w → SessionOn self.new s h w }
+        ensures told { (s h : List ℕ) (w : ℕ) → SessionOn self.old s h w → ToldPost s h one.now other.now w result }
     {
         if too_few_with_terms(
             self.lent,

@@ -1,6 +1,7 @@
 // All pairs of a text, by one book.
-ghost use Rattle.std.specs.Prelude.{◌≡◌};
+ghost use Rattle.std.specs.Prelude.{List, ℕ};
 ghost use Rattle.equal.specs.Promises.{ToldPost};
+ghost use Rattle.equal.specs.SessionRows.{SessionOn};
 
 use crate::pairs::{Asking, Pairs};
 use arguments::Stopped;
@@ -10,10 +11,9 @@ use std::io::Read;
 
 // What is said of a pair: what `equal::tell` says of its two rows.
 fn tell_pair(session: &mut Session<'_, '_>, pair: &Pair) -> Told
-    ensures book { session.new.book.now ≡ session.old.book.now }
-    ensures ways { session.new.ways.now ≡ session.old.ways.now }
-    ensures lent { session.new.lent ≡ session.old.lent }
-    ensures told { ToldPost session.old.book.now session.old.ways.now pair.now.one.items pair.now.other.items session.old.lent result }
+    ensures same { (s h : List ℕ) (w : ℕ) → SessionOn session.old s h w → SessionOn session.new s h w }
+    ensures told { (s h : List ℕ) (w : ℕ) → SessionOn session.old s h w →
+        ToldPost s h pair.now.one.items pair.now.other.items w result }
 {
     session.tell(&pair.one, &pair.other)
 }
