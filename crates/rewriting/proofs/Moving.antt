@@ -51,11 +51,16 @@ move_steps {rs} {x} {y} m = elim (move_whole m) [
   | inr l ↦ leads_steps l
 ]
 
+-- moves can be put one after another
+pub moves_on : {rs : List Eq} {x y z : State} → Moves rs x y → Moves rs y z → Moves rs x z
+moves_on rest k = k
+moves_on (move m ms) k = move m (moves_on ms k)
+
 pub moves_steps : {rs : List Eq} {x y : State} → Moves rs x y → Steps rs (whole x) (whole y)
 moves_steps rest = stay
 moves_steps (move m ms) = trans (move_steps m) (moves_steps ms)
 
--- moves by the lowest-numbered rules are moves, and can be put one after another
+-- moves by the lowest-numbered rules are moves, and can be put one after another too
 pub lowest_are_moves : {rs : List Eq} {x y : State} → LowestMoves rs x y → Moves rs x y
 lowest_are_moves no_move = rest
 lowest_are_moves (move_on m ms) = move m.move (lowest_are_moves ms)
