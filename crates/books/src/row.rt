@@ -37,7 +37,7 @@ impl<'a> Book<'a> {
         ensures { RowRead words.now result }
     {
         let layout = read_book(words)?;
-        let index = index_rules(words, &layout);
+        let index = index_rules(words, &layout.starts, layout.equations, layout.rules);
         Some(Book {
             words,
             layout,
