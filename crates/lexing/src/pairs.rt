@@ -1,6 +1,5 @@
 // Pairs of terms, one a line, as rows of decimal words with `|` between them.
 ghost use Rattle.std.specs.Prelude.{◌≤◌, vec_len};
-ghost use Rattle.lexing.specs.declared.pairs.TheConstants.{MOST_TERM};
 
 use crate::cursor::Cursor;
 use crate::fault::{Error, Expected};
@@ -26,8 +25,6 @@ pub enum Line {
 pub struct Pair {
     pub one: Vec<u32>,
     pub other: Vec<u32>,
-    pub ghost one_short: { vec_len one ≤ MOST_TERM },
-    pub ghost other_short: { vec_len other ≤ MOST_TERM },
 }
 
 impl Pair {
@@ -41,7 +38,10 @@ impl Pair {
 
     // Reads the two rows of a line. Any words will do.
     // Stays beside `parse_pair` of notation: how a term is read, what stands between, and how one too long is known all differ.
-    pub fn read(&mut self, heap: Global, line: &[u8]) -> Result<Line, Error> {
+    pub fn read(&mut self, heap: Global, line: &[u8]) -> Result<Line, Error>
+        ensures one { vec_len self.new.one ≤ 13056 }
+        ensures other { vec_len self.new.other ≤ 13056 }
+    {
         self.one.clear();
         self.other.clear();
         let mut cursor = Cursor::new(heap, line, 0);

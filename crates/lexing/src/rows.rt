@@ -1,7 +1,6 @@
 // Rows as text: the decimal words of a book on one line, and those of its ways on the next.
 // Stays a text with a place, as in the lexer: faults tell where a word stands in the whole text.
 ghost use Rattle.std.specs.Prelude.{◌≤◌, length, IfOk, vec_len};
-ghost use Rattle.lexing.specs.declared.rows.TheConstants.{MOST_WORDS};
 
 use crate::cursor::Cursor;
 use crate::fault::{Error, Expected};
@@ -16,8 +15,8 @@ pub const MOST_WORDS: usize = 16_451;
 pub struct Rows {
     pub book: Vec<u32>,
     pub ways: Vec<u32>,
-    pub ghost book_short: { vec_len book ≤ MOST_WORDS },
-    pub ghost ways_short: { vec_len ways ≤ MOST_WORDS },
+    pub ghost book_short: { vec_len book ≤ 16451 },
+    pub ghost ways_short: { vec_len ways ≤ 16451 },
 }
 
 // The place of the end of the line that goes on at `from`, or of the end of the text.
@@ -29,7 +28,7 @@ pub fn line_end(text: &[u8], from: usize) -> usize
 
 // The words on the line that goes on at `from`.
 fn row(heap: Global, text: &[u8], from: usize) -> Result<Vec<u32>, Error>
-    ensures { IfOk result (λ v. vec_len v ≤ MOST_WORDS) }
+    ensures { IfOk result (λ v. vec_len v ≤ 16451) }
 {
     let line = &text[..line_end(text, from)];
     let mut words = Vec::with_capacity(heap, MOST_WORDS)?;

@@ -1,4 +1,6 @@
 // Pairs of terms to be compared, one a line, in the names of a book.
+ghost use Rattle.std.specs.Prelude.{◌≡◌, ◌≤◌, IfOk, vec_len};
+ghost use Rattle.lexing.specs.declared.pairs.Line.TheVariants.{Blank};
 
 use crate::parser::Parser;
 use crate::signature::Signature;
@@ -21,10 +23,12 @@ const TERM: Limits = Limits {
 };
 
 impl Parser<'_> {
-    // Takes two terms with `=` between them: their rows are the pair.
-    fn pair(&mut self, pair: &mut Pair) -> Result<(), Error> {
-        pair.one.clear();
-        pair.other.clear();
+    // Takes two terms with `=` between them, and adds their rows.
+    fn pair(&mut self, pair: &mut Pair) -> Result<(), Error>
+        requires { (vec_len pair.old.one ≤ 0) × (vec_len pair.old.other ≤ 0) }
+        ensures one { vec_len pair.new.one ≤ 13056 }
+        ensures other { vec_len pair.new.other ≤ 13056 }
+    {
         self.term(&mut pair.one, TERM)?;
         self.cursor
             .expect(Kind::Equals, Expected::Words("`=` and the other term"))?;
@@ -34,13 +38,19 @@ impl Parser<'_> {
     }
 }
 
-// Reads the rows of the two terms of a line.
+// Reads the rows of the two terms of a line. Where there are none, the rows are empty.
 pub fn parse_pair(
     heap: Global,
     signature: &Signature,
     line: &[u8],
     pair: &mut Pair,
-) -> Result<Line, Error> {
+) -> Result<Line, Error>
+    ensures one { vec_len pair.new.one ≤ 13056 }
+    ensures other { vec_len pair.new.other ≤ 13056 }
+    ensures blank { IfOk result (λ line. line ≡ Blank → (vec_len pair.new.one ≡ 0) × (vec_len pair.new.other ≡ 0)) }
+{
+    pair.one.clear();
+    pair.other.clear();
     let cursor = Cursor::new(heap, line, 0);
     if cursor.token.is(Kind::End) {
         return Ok(Line::Blank);

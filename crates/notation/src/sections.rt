@@ -1,7 +1,6 @@
 // The sections that follow the names: equations, and rules with their ways.
 // Stays a `Vec` with clauses on what is added: a type could hold the row's bound, and each step would need the same clause to keep it.
 ghost use Rattle.std.specs.Prelude.{◌+◌, ◌≤◌, IfOk, vec_len};
-ghost use Rattle.lexing.specs.declared.rows.TheConstants.{MOST_WORDS};
 
 use crate::parser::{Parser, entry_comes};
 use crate::terms::Limits;
@@ -28,7 +27,7 @@ const SIDE: Limits = Limits {
 #[derive(Drop)]
 pub(crate) struct Ways {
     pub(crate) words: Vec<u32>,
-    ghost short: { vec_len words ≤ MOST_WORDS },
+    ghost short: { vec_len words ≤ 16451 },
 }
 
 impl Ways {

@@ -116,12 +116,17 @@ impl<'a> Parser<'a> {
     pub(crate) fn term(&mut self, row: &mut Vec<u32>, limits: Limits) -> Result<(), Error>
         ensures { vec_len row.new ≤ vec_len row.old + 2 * limits.symbols }
     {
-        // With space for a term of nothing but signs in each other, so that it never grows.
-        let mut open = Vec::with_capacity(self.cursor.heap, limits.symbols)?;
+        let mut open = Vec::new(self.cursor.heap);
         // Stays a counted loop: it ends with the term, or at the limit of its symbols.
         for _turn in 0..limits.symbols {
             match self.symbol(row, limits.letters)? {
-                Some(sign) => open.push(sign)?,
+                Some(sign) => {
+                    // Space for a term of nothing but signs in each other, so that it never grows; a term without parts wants none.
+                    if open.capacity() == 0 {
+                        open.reserve_exact(limits.symbols)?;
+                    }
+                    open.push(sign)?;
+                }
                 None => {
                     if !self.close(&mut open)? {
                         return Ok(());
