@@ -3,7 +3,6 @@ use Rattle.std.proofs.Common.{◌≡◌, ℕ, zero, suc, ◌<◌, ◌≤◌, Boo
 use Rattle.std.proofs.Common.{⊎_elim, arith}
 use Rattle.std.proofs.Common.{eqb-true}
 use borrow.Author.Tests.{eqb-false}
-use Rattle.std.specs.List.{All}
 use Rattle.rewriting.specs.Terms.{Term, letter, sign, Terms, put}
 use Rattle.store.specs.declared.types.Store.{Store}
 use Rattle.store.specs.declared.types.Place.{Place}
@@ -15,7 +14,6 @@ use Rattle.unification.specs.Classes.{label, IsSign, Labelled, Respects, class_c
 -- the first n labels of xs are changed, and the rest is as it was
 pub record RelabelledBelow (n : ℕ) (xs : List Place) (a b : Place) (ys : List Place) : Type 0 where
   pub long : length ys ≡ 96
-  pub low : All (λ p. p.0 < 96) ys
   pub moved : (i : ℕ) → i < n → (get_or xs i (record { 0 = 0 })).0 ≡ a.0 → (get_or ys i (record { 0 = 0 })).0 ≡ b.0
   pub kept : (i : ℕ) → i < n → ((get_or xs i (record { 0 = 0 })).0 ≡ a.0 → ⊥) → get_or ys i (record { 0 = 0 }) ≡ get_or xs i
       (record { 0 = 0 })

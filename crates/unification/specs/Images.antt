@@ -100,7 +100,7 @@ Complete c m n false = (i : ℕ) × Wanting c m n i
 
 -- letter x is bound to a place that has a class
 abbrev pub HasClass : Bindings → Classes → ℕ → Type 0
-HasClass b c x = (p : Place) × (bound b x ≡ Some p) × (p.0 < 96)
+HasClass b c x = (p : Place) × (bound b x ≡ Some p) × (p.0 < 96) × (label c p.0 < 96)
 
 -- each letter below 32 is bound to the image of its class
 pub record LetterImages (b : Bindings) (c : Classes) (m : Images) (u : Bindings) : Type 0 where

@@ -1,5 +1,5 @@
 // Classes of places: every place for itself at first, and then merged.
-ghost use Rattle.std.specs.Prelude.{◌≡◌, ℕ, ◌<◌};
+ghost use Rattle.std.specs.Prelude.{◌≡◌, ℕ, ◌<◌, All};
 ghost use Rattle.unification.specs.Classes.{label, Relabelled};
 
 use crate::types::Classes;
@@ -20,14 +20,13 @@ impl Classes {
     pub fn known_by(&self, p: Place) -> Place
         requires { p.0 < 96 }
         ensures label { result.0 ≡ label self.now p.0 }
-        ensures low { result.0 < 96 }
+        ensures low { All (λ p. p.0 < 96) self.now.labels → result.0 < 96 }
     {
         self.labels[p.0]
     }
 
     // The class that is known by a becomes one with the class that is known by b.
     pub(crate) fn relabel(&mut self, a: Place, b: Place)
-        requires { b.0 < 96 }
         ensures { Relabelled self.old a.0 b.0 self.new }
     {
         for label in self.labels.iter_mut() {

@@ -1,6 +1,7 @@
 // Images of classes: none at first, and then built from the images of parts.
-ghost use Rattle.std.specs.Prelude.{◌≡◌, ◌<◌, ◌≤◌, replicate, Some, None, slice_set};
+ghost use Rattle.std.specs.Prelude.{◌≡◌, ℕ, ◌<◌, ◌≤◌, replicate, Some, None, slice_set};
 ghost use Rattle.store.specs.Stores.{arity_in};
+ghost use Rattle.unification.specs.Classes.{label};
 ghost use Rattle.unification.specs.Images.{image, Complete, PartImages};
 
 use crate::types::{Classes, Images};
@@ -32,6 +33,7 @@ impl Images {
     pub fn parts(&self, store: &Store, classes: &Classes, p: Place, n: usize) -> Option<[Place; 4]>
         requires place { (p.0 < store.now.count) × (p.0 < 96) }
         requires arity { (arity_in store.now p.0 ≡ n) × (n ≤ 4) }
+        requires labels { (i : ℕ) → i < p.0 → label classes.now i < 96 }
         ensures { PartImages store.now classes.now self.now p.0 n result }
     {
         let mut parts = [Place(0); 4];
@@ -45,7 +47,7 @@ impl Images {
     // Whether the classes of the first n places all have images.
     // Stays with n beside the classes: the store that they belong to grows while images are built.
     pub fn complete(&self, classes: &Classes, n: usize) -> bool
-        requires { n ≤ 96 }
+        requires { (n ≤ 96) × ((i : ℕ) → i < n → label classes.now i < 96) }
         ensures { Complete classes.now self.now n result }
     {
         (0..n).all(|i| self.get(classes.known_by(Place(i))).is_some())

@@ -1,14 +1,11 @@
 // The types: classes of places, their images, and that classes have two different signs.
-ghost use Rattle.std.specs.Prelude.{◌<◌, All};
-
 use store::Place;
 
 // For each of 96 places its label: the place by which its class is known.
 // Stays an array, as the images below: there are at most 96 places, and no heap is used here.
 #[derive(Clone, Copy)]
 pub struct Classes {
-    pub(crate) labels: [Place; 96],
-    ghost low: { All (λ p. p.0 < 96) labels },
+    pub labels: [Place; 96],
 }
 
 // For each class, by its label, the place of what becomes of its terms, once that is built.

@@ -18,8 +18,9 @@ from_fn-requires c = (
         let l : x < 32 = omega (arith, s.0) in
         let h = c.requires x l in
         let i : is_some (bound q.2.now x) ≡ true = subst (λ z. is_some (bound z.2.now x) ≡ true) e (ap is_some h.1) in
-        let j : (p : Place) → bound q.2.now x ≡ Some p → p.0 < 96 = subst (λ z. (p : Place) → bound z.2.now x ≡ Some p → p.0 < 96) e
-        (λ p d. subst (λ (p : Place). p.0 < 96) (same_place (sym h.1 ∙ d)) h.2) in
+        let j : (p : Place) → bound q.2.now x ≡ Some p → (p.0 < 96) × (label q.1.now p.0 < 96) =
+        subst (λ z. (p : Place) → bound z.2.now x ≡ Some p → (p.0 < 96) × (label z.1.now p.0 < 96)) e
+        (λ p d. subst (λ (p : Place). (p.0 < 96) × (label c.args.classes.now p.0 < 96)) (same_place (sym h.1 ∙ d)) (h.2, h.3)) in
         search (rules, l, i, j);
   },
 )

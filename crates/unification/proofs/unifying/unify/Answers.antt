@@ -23,7 +23,10 @@ pub bind_letters-requires : goal.bind_letters-requires
 bind_letters-requires c x l =
     let r = c.requires.0 in
     let h = r.letters x l in
-    (h.0, h.1, omega (arith, r.few, h.2))
+    let w = closure_ok c.args.store.now c.args.p c.args.q c.close.result c.in_ok-classes.classes c.close.ensures
+    c.in_ok-classes.ensures.value in
+    let k = w.labelled.low h.0.0 h.2 in
+    (h.0, h.1, omega (arith, r.few, h.2), omega (arith, r.few))
 
 pub returns-clause-unified : goal.returns-clause-unified
 returns-clause-unified c =
