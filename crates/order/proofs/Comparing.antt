@@ -1,5 +1,5 @@
 -- Terms that are the same, and the first that differ.
-use Rattle.std.proofs.Common.{◌≡◌, ℕ, Bool, true, false, List, [], ◌++◌, Some, None, Option as Maybe, Decides, MatchOption}
+use Rattle.std.proofs.Common.{◌≡◌, ℕ, Bool, true, false, List, [], ◌++◌, Some, None, Option as Maybe, Decides, MatchOption, not}
 use Rattle.std.proofs.Common.{sym, ap, ◌∙◌, refl, subst, subst₂, inl, inr, arith}
 use Rattle.std.specs.Option.{option_eq}
 use borrow.Author.Tests.{clash}
@@ -30,6 +30,21 @@ module _ (p : Comparison) (k j : ℕ) {E : List ℕ → List ℕ → Bool}
         (ap (λ (x : List ℕ). x ++ []) (sym (h t s) ∙ ((tests v.now w.now r e).0 y ∙ g u z)));
     fails = λ y d. absurd (clash (sym y ∙ (tests v.now w.now r e).1 (h t s ∙ (ap row d ∙ sym (g u z)))));
   }
+
+not_not : (x : Bool) → not (not x) ≡ x
+not_not true = refl
+not_not false = refl
+
+-- the same exactly if their words don't differ
+module _ (p : Comparison) (k j : ℕ) (v w : List ℕ) (left : (t : Term) → OnLeft p k t → v ≡ row t)
+    (right : (u : Term) → OnRight p j u → w ≡ row u) (x : Bool) (tests : (r : Bool) → r ≡ x → Decides r (v ≡ w)) where
+  pub differ_words : (r : Bool) → r ≡ not x → Equates p k j (not r)
+  differ_words r e t u s z =
+      let d = tests (not r) (ap not e ∙ not_not x) in record {
+        holds = λ y. row_once p.parts.now t u [] [] s.over z.over
+            (ap (λ (x : List ℕ). x ++ []) (sym (left t s) ∙ (d.0 y ∙ right u z)));
+        fails = λ y e. absurd (clash (sym y ∙ d.1 (left t s ∙ (ap row e ∙ sym (right u z)))));
+      }
 
 -- no term is greater than itself
 not_itself : (rk : Rank) (ps : List ℕ) {t : Term} → Grounded rk ps t → Fits ps t → Greater rk t t → ⊥

@@ -114,4 +114,5 @@ module _ (ps ws : List ℕ) (p : Parts) where
     }
 
     pub splits_some : Splits ps ws p (Some q)
-    splits_some = (omega (arith, end.2.long, size_some end.0), end.2.within, splits)
+    splits_some =
+        (omega (arith, end.2.long, size_some end.0), end.2.within, splits, words_of ps ws p.start q.start end)

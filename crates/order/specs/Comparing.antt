@@ -1,5 +1,5 @@
 -- The terms that stand in a rule's sides, and how they compare.
-use Rattle.std.specs.Prelude.{◌≡◌, ℕ, ◌+◌, ◌<◌, ◌≤◌, Bool, ◌⊎◌, List, ◌++◌, length, drop, Some, None, Option as Maybe, slice_index}
+use Rattle.std.specs.Prelude.{◌≡◌, ℕ, ◌+◌, ◌-◌, ◌<◌, ◌≤◌, Bool, ◌⊎◌, List, ◌++◌, length, take, drop, Some, None, Option as Maybe, slice_index}
 use Rattle.rewriting.specs.Terms.{Term, letter, sign, Terms, none1, and1, count, Ok, AllOver, SmallLetter}
 use Rattle.rewriting.specs.Order.{Rank, rank, Greater, SomeAtLeast, AllLess, FirstGreater}
 use Rattle.rewriting.specs.Answers.{Tells}
@@ -54,9 +54,10 @@ pub record Split (ps ws : List ℕ) (p q : Parts) (ts : Terms) : Type 0 where
   pub there : Stands ps ws p.start first
   pub behind : Stand ps ws q others
 
--- where the others stand, or that there are no terms
+-- where the others stand, and the words of the first before them; or that there are no terms
 abbrev pub Splits : List ℕ → List ℕ → Parts → Maybe Parts → Type 0
 Splits ps ws p (Some q) = (p.start < q.start) × (q.start ≤ length ws) × ((ts : Terms) → Stand ps ws p ts → Split ps ws p q ts)
+    × ((t : Term) → Stands ps ws p.start t → take (q.start - p.start) (drop p.start ws) ≡ row t)
 Splits ps ws p None = (ts : Terms) → Stand ps ws p ts → ts ≡ none1
 
 -- the terms at two places are the same, or not

@@ -96,7 +96,8 @@ impl Comparison<'_> {
             let (Some(c), Some(d)) = (self.rest(self.left, a), self.rest(self.right, b)) else {
                 break None;
             };
-            if !self.same(a.start, b.start) {
+            // Where the first terms end is known here: `same` would look for it again.
+            if self.left[a.start..c.start] != self.right[b.start..d.start] {
                 break Some((a.start, b.start));
             }
             a = c;

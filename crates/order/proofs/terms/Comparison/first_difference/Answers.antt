@@ -1,10 +1,17 @@
 -- One term more.
-use Rattle.order.proofs.Comparing.{skips_next, skips_end_left, skips_end_right, skips_differ}
+use Rattle.std.proofs.lemmas.Bool.Decides.{Decides-eqb}
+use Rattle.std.proofs.lemmas.Slice.Eq.{slice_eq-Decides}
+use Rattle.order.proofs.Comparing.{skips_next, skips_end_left, skips_end_right, skips_differ, differ_words}
 use Rattle.order.proofs.terms.Comparison.first_difference.Goals as goal
 
 pub loop-c-preserved : goal.loop-c-preserved
-loop-c-preserved c = skips_next c.args.self.now c.args.lefts c.args.rights c.loop-c.a c.loop-c.b c.loop-c.invariant
-    c.in-Some-Some.c c.in-Some-Some.d c.in-Some-Some.ensures c.in-Some-Some.ensures' c.if-not-same.ensures
+loop-c-preserved c =
+    let left = c.in-Some-Some.ensures in
+    let right = c.in-Some-Some.ensures' in
+    skips_next c.args.self.now c.args.lefts c.args.rights c.loop-c.a c.loop-c.b c.loop-c.invariant
+    c.in-Some-Some.c c.in-Some-Some.d left right
+    (differ_words c.args.self.now c.loop-c.a.start c.loop-c.b.start _ _ left.3 right.3 _ (slice_eq-Decides Decides-eqb _ _)
+    _ c.if-ne.ensures)
 
 pub returns-in_default : goal.returns-in_default
 returns-in_default c =
@@ -15,6 +22,11 @@ returns-in_default-2 c =
     let none = rw c.in_default.is-0 at c.rest.ensures in
     skips_end_left c.args.self.now c.args.lefts c.args.rights c.loop-c.a c.loop-c.b c.loop-c.invariant none
 
-pub returns-then-not-same : goal.returns-then-not-same
-returns-then-not-same c = skips_differ c.args.self.now c.args.lefts c.args.rights c.loop-c.a c.loop-c.b c.loop-c.invariant
-    c.in-Some-Some.c c.in-Some-Some.d c.in-Some-Some.ensures c.in-Some-Some.ensures' c.if-not-same.ensures
+pub returns-then-ne : goal.returns-then-ne
+returns-then-ne c =
+    let left = c.in-Some-Some.ensures in
+    let right = c.in-Some-Some.ensures' in
+    skips_differ c.args.self.now c.args.lefts c.args.rights c.loop-c.a c.loop-c.b c.loop-c.invariant
+    c.in-Some-Some.c c.in-Some-Some.d left right
+    (differ_words c.args.self.now c.loop-c.a.start c.loop-c.b.start _ _ left.3 right.3 _ (slice_eq-Decides Decides-eqb _ _)
+    _ c.if-ne.ensures)
