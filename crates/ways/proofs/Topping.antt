@@ -1,9 +1,8 @@
 -- Both sides of an equation matched with two terms.
-use Rattle.std.proofs.Common.{◌≡◌, ℕ, ◌<◌, Bool, true, false, ◌⊎◌, List, length, replicate, None, Some, Option, sym, subst, arith}
+use Rattle.std.proofs.Common.{◌≡◌, ℕ, ◌<◌, Bool, true, false, ◌⊎◌, List, length, replicate, None, Some, Option, sym, ◌∙◌, subst, arith}
 use Rattle.std.specs.Prelude.{◌≤◌, MatchBool, HoldsAt, slice_index_or as get_or}
 use Rattle.std.specs.List.{range_with_len}
 use Rattle.std.proofs.lemmas.List.FromFn.{length-range_with_len, get_or-range_with_len}
-use Rattle.std.specs.Option.{is_some}
 use borrow.Author.Tests.{clash}
 use Rattle.rewriting.specs.Answers.{Tells}
 use Rattle.rewriting.specs.Terms.{Term}
@@ -16,7 +15,7 @@ use Rattle.books.specs.Rows.{row}
 use Rattle.books.proofs.Bookish.{is_equation, equation_sides}
 use Rattle.books.proofs.Elements.{nth_below, nth_is}
 use Rattle.engine.specs.declared.types.Bindings.{Bindings}
-use Rattle.engine.specs.Matching.{Agrees, nothing, put_in, MatchedOn, Pattern}
+use Rattle.engine.specs.Matching.{Agrees, nothing, put_in, given, MatchedOn, Pattern}
 use Rattle.engine.proofs.Matcher.{fresh_is, unbound, all_agree}
 use Rattle.ways.specs.Steps.{SidesAre, Equated, Comparable}
 
@@ -39,17 +38,16 @@ module _ (st : Store) (e : Eq) (t u : Term) where
       MatchedOn st nothing e.left t m
   first_matched b fresh m = subst (λ (c : Bindings). MatchedOn st c e.left t m) (fresh_is b fresh)
 
-  pub left_fails : MatchedOn st nothing e.left t None → (x : Option Bindings) → x ≡ None → Tells (is_some x) (SidesAre e t u)
-  left_fails h x is = subst (λ (y : Option Bindings). Tells (is_some y) (SidesAre e t u)) (sym is)
-      (record { holds = λ d. absurd (clash d); fails = λ d m. h m.0 (none_yet m.0) m.1 })
+  pub left_fails : MatchedOn st nothing e.left t None → (x : Bool) → x ≡ false → Tells x (SidesAre e t u)
+  left_fails h x is = record { holds = λ d. absurd (clash (sym is ∙ d)); fails = λ d m. h m.0 (none_yet m.0) m.1 }
 
-  pub both_matched : (c : Bindings) → MatchedOn st nothing e.left t (Some c) → (x : Option Bindings) → MatchedOn st c e.right u x →
-      Tells (is_some x) (SidesAre e t u)
-  both_matched c h (Some d) g =
+  pub both_matched : (c : Bindings) → MatchedOn st nothing e.left t (Some c) → (x : Bool) (d : Bindings) →
+      MatchedOn st c e.right u (given x d) → Tells x (SidesAre e t u)
+  both_matched c h true d g =
       let s = put_in st d in
       let m = g.enough s (all_agree st d) in
       record { holds = λ z. (s, (h.enough s m.0).1, m.1); fails = λ z. absurd (clash (sym z)) }
-  both_matched c h None g = record {
+  both_matched c h false d g = record {
     holds = λ z. absurd (clash z);
     fails = λ z m. g m.0 (h.needed m.0 (none_yet m.0) m.1) m.2;
   }
