@@ -83,6 +83,7 @@ module _ (b : Book) (w : Work) where
       room = h.room;
       cells = h.cells;
       words = h.words;
+      frames = h.frames;
       result = λ n a. elim (no_room n t.two h a) [
         | inl k ↦ (k.0, inr k.1, k.2)
         | inr l ↦ (root_term w 0, inl stay, l)
@@ -157,6 +158,7 @@ module _ (b : Book) (w : Work) (t : TwoRoots b w)
       room = n.room ∙ one.room;
       cells = n.cells ∙ (x.long ∙ one.cells);
       words = n.words ∙ one.words;
+      frames = n.frames;
       result = results y n;
     }
 
@@ -173,6 +175,7 @@ module _ (b : Book) (w : Work) where
     room = refl;
     cells = refl;
     words = refl;
+    frames = λ f. f;
     result = λ n a. (
       root_term w 1,
       subst (λ (t : Term). Steps (told b).rules t (root_term w 1)) (sym (at_places w i j d e h)) stay,
@@ -186,6 +189,7 @@ module _ (b : Book) (w : Work) where
       room = n.room;
       cells = n.cells;
       words = n.words;
+      frames = λ f. n.frames;
       result = λ m a. (
         root_term v 1,
         n.result.1,
@@ -198,6 +202,7 @@ module _ (b : Book) (w : Work) where
       room = n.room;
       cells = n.cells;
       words = n.words;
+      frames = λ f. n.frames;
       result = λ m a. (
         root_term v 1,
         root_term v 0,

@@ -126,10 +126,11 @@ module _ (rs : List Eq) (low : ℕ) (st : Store) (q : Roots) (fr : Frames) (u : 
         (subst (Asks (AskedFor rs st fr) ks) parts_are asked1),
   )
 
-  pub runs_in : Running rs low (work st r gr) (Eval first)
-  runs_in = record {
+  pub runs_in : fr.fresh ≤ fr.depth → Running rs low (work st r gr) (Eval first)
+  runs_in forgotten = record {
     honest = honest;
     inside = record { fits = omega (arith, space, o.cells, o.top); low = low_roots };
+    frames = record { words = k.long; fresh = omega (arith, k.depth, k.fresh, forgotten) };
     framed = framed;
     focus = first_there;
     asked = subst (λ (ls : List ModelFrame). Asks (AskedFor rs st gr) ls t0) (sym frames_are) asked;
@@ -167,7 +168,7 @@ module _ (rs : List Eq) (low : ℕ) (st : Store) (q : Roots) (fr : Frames) (p : 
   gone_in = record {
     holding = holding_same rs st p run1.honest;
     running = runs_in rs low st q fr (term_in st p.0) ps f n first r gr run1.honest run1.inside run1.framed run1.asked few parts_of at there
-        space.roots o k;
+        space.roots o k run1.frames.fresh;
     goes = (
       state_in (work st r gr) (Eval first),
       moves_in rs low st q fr (term_in st p.0) ps f n first r gr run1.honest run1.inside run1.framed run1.asked few parts_of at there

@@ -63,6 +63,7 @@ module _ (rs : List Eq) where
       running_to e l s = record {
         honest = h.honest;
         inside = inside_to;
+        frames = run1.frames;
         framed = run1.framed;
         focus = l;
         asked = asked_to (term_in su (focus_place e)) s;

@@ -51,7 +51,13 @@ pub lent_then : {r s t : Reducer} → Lent r s → Lent s t → Lent r t
 lent_then d e = record { rules = e.rules ∙ d.rules; lent = e.lent ∙ d.lent }
 
 pub idle_on : {u v w : Work} → Idle u v → Idle v w → Idle u w
-idle_on d e = record { room = e.room ∙ d.room; cells = e.cells ∙ d.cells; words = e.words ∙ d.words; none = e.none }
+idle_on d e = record {
+  room = e.room ∙ d.room;
+  cells = e.cells ∙ d.cells;
+  words = e.words ∙ d.words;
+  frames = λ f. e.frames (d.frames f);
+  none = e.none;
+}
 
 pub idle_then : {r s t : Reducer} → LeftIdle r s → LeftIdle s t → LeftIdle r t
 idle_then d e = record { lent = lent_then d.lent e.lent; idle = idle_on d.idle e.idle }

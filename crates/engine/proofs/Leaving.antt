@@ -156,6 +156,7 @@ module _ (b : Book) (low : ℕ) (st : Store) (q : Roots) (fr : Frames) (v : Plac
                 let z = ap (λ (cs : List ℕ). root_at cs j) cut.cells in
                 omega (arith, z, hold.longer, ready.running.inside.low j (omega (arith, cut.top)));
           };
+          frames = record { words = omega (arith, ready.running.frames.words, ap length pop.words, pop.depth); fresh = pop.fresh };
           framed = framed;
           focus = comes_inside rs (sign x.sign (behind bs tv)) sv e comes;
           asked = subst (λ (ls : List ModelFrame). Asks (AskedFor rs sv gr) ls (term_in sv (focus_place e))) (sym frames_are) asked;

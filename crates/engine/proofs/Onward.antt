@@ -142,6 +142,7 @@ module _ (rs : List Eq) (low : ℕ) (st : Store) (q : Roots) (fr : Frames) (v : 
     running = record {
       honest = run1.honest;
       inside = record { fits = omega (arith, run1.inside.fits, s.long, s.top); low = low_roots };
+      frames = record { words = omega (arith, run1.frames.words, k.words.long, k.depth); fresh = omega (arith, k.fresh, k.depth) };
       framed = framed;
       focus = next_inside;
       asked = subst (λ (ls : List ModelFrame). Asks (AskedFor rs st gr) ls tn) (sym frames_are) asked;

@@ -85,7 +85,8 @@ module _ (rs : List Eq) (low : ℕ) (st su : Store) (q : Roots) (fr : Frames) (p
   pub opened : TurnedTo rs low (work st q fr) (Eval p) (work su r gr) (Eval first)
   opened = record {
     holding = h;
-    running = runs_in rs low su q fr u ps f n first r gr h.honest inside1 run1.framed asked1 few is at there space o k;
+    running = runs_in rs low su q fr u ps f n first r gr h.honest inside1 run1.framed asked1 few is at there space o k
+        run1.frames.fresh;
     goes = (
       state (frames_in (work st q fr)) (eval u),
       step (frames_in (work st q fr)),

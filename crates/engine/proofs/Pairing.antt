@@ -21,6 +21,7 @@ use Rattle.store.specs.Stores.{held, Inside, RootsKept}
 use Rattle.store.specs.Transfers.{RowOf, Read}
 use Rattle.engine.specs.declared.types.NoRoom.{NoRoom}
 use Rattle.engine.specs.declared.work.Work.{Work}
+use Rattle.engine.specs.Frames.{FramesFit}
 use Rattle.engine.specs.Normal.{root_term}
 use Rattle.engine.specs.Meeting.{Ample, TwoRoots, Compares}
 use Rattle.engine.specs.Reducers.{Idle}
@@ -168,6 +169,7 @@ module _ (b : Book) (w : Work) (ls rs : List ℕ) (two : TwoRows b ls rs) (v : W
         room = i.room ∙ h.room;
         cells = i.cells ∙ h.cells;
         words = i.words ∙ ap (λ (fr : _). length fr.words.now) h.frames;
+        frames = λ f. i.frames (subst FramesFit (sym h.frames) f);
         none = i.none;
       }
 

@@ -165,6 +165,7 @@ module _ (b : Book) (w0 : Work) (down : AllDown (rank (told b).ranks) (told b).r
         fits = omega (arith, ap length cut.cells, cut.top, can.inside.fits);
         low = λ k l. omega (arith, root_same k, can.inside.low k (omega (arith, cut.top)));
       };
+      frames = record { words = omega (arith, none.depth); fresh = omega (arith, none.fresh, none.depth) };
       framed = subst (λ (n : ℕ). Framed fr.words.now n q.top low) (sym none.depth) cut.top;
       focus = omega (arith, at, can.inside.low (q0.top - 1) (omega (arith, can.some)));
       asked = subst (λ (ks : List ModelFrame). Asks (AskedFor (told b).rules st fr) ks (term_in st p.0)) (sym no_frames) tt;
@@ -201,6 +202,7 @@ module _ (b : Book) (w0 : Work) (down : AllDown (rank (told b).ranks) (told b).r
           room = k.room;
           cells = on.long ∙ k.cells ∙ ap length cut.cells;
           words = k.words ∙ ap length none.words;
+          frames = d.ready.running.frames;
           terms = λ j l. ap (term_in z.store) (on.rest j (λ y. omega arith)) ∙ k.terms j l ∙ ap (term_in st) (root_same j);
           result = (
             omega (arith, on.top, can.some),
@@ -234,6 +236,7 @@ module _ (b : Book) (w0 : Work) (down : AllDown (rank (told b).ranks) (told b).r
           room = k.room;
           cells = ap length c.cells ∙ k.cells ∙ ap length cut.cells;
           words = k.words ∙ ap length none.words;
+          frames = d.frames;
           terms = λ j l. ap (term_in z.store) (same j) ∙ k.terms j l ∙ ap (term_in st) (root_same j);
           result = (
             c.top,

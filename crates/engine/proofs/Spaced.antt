@@ -24,7 +24,7 @@ use Rattle.engine.specs.declared.types.Frames.{Frames}
 use Rattle.engine.specs.declared.types.Focus.{Focus}
 use Rattle.engine.specs.declared.types.Focus.TheVariants.{Eval, Back}
 use Rattle.engine.specs.declared.types.NoRoom.{NoRoom}
-use Rattle.engine.specs.Frames.{frame_at, Forgotten}
+use Rattle.engine.specs.Frames.{frame_at, FramesFit, Forgotten}
 use Rattle.engine.specs.Running.{Framed, focus_place, focus_of, frames_of, frames_in, state_in, Asks, AskedFor, Running}
 use Rattle.engine.specs.Turning.{KeptBelow}
 use Rattle.engine.specs.Spacing.{focus_at, Collected, Wanting, few_slots, few_words, few_cells, Halted, WithSpace, SpaceOrHalted}
@@ -100,6 +100,7 @@ module _ (rs : List Eq) (low : ℕ) (st : Store) (q : Roots) (fr : Frames) (c : 
     sound = sound_in st;
     honest = run1.honest;
     inside = run1.inside;
+    frames = run1.frames;
     enough = framed_low fr.words.now fr.depth q.top low run1.framed;
     kept = kept_same;
     wanting = w;
@@ -145,11 +146,18 @@ module _ (rs : List Eq) (low : ℕ) (st : Store) (q : Roots) (fr : Frames) (c : 
       terms = λ i l. k.terms i (omega (arith, low_top));
     }
 
+    frames_fit : {x : _} → Collected (work st q fr) p (work su r gr) x → FramesFit gr
+    frames_fit k = record {
+      words = omega (arith, ap length k.forgotten.words, k.forgotten.depth, run1.frames.words);
+      fresh = omega (arith, k.forgotten.fresh, k.forgotten.depth);
+    }
+
     halted : {e : NoRoom} → Collected (work st q fr) p (work su r gr) (Err e) → Halted rs low (work st q fr) u (work su r gr)
     halted k = record {
       sound = k.sound;
       honest = honest_carried rs st su run1.honest k.carried;
       inside = k.inside;
+      frames = frames_fit k;
       enough = omega (arith, low_top, k.top);
       kept = kept_by k;
       wanting = few_slots (
@@ -185,6 +193,7 @@ module _ (rs : List Eq) (low : ℕ) (st : Store) (q : Roots) (fr : Frames) (c : 
           running = record {
             honest = honest_carried rs st su run1.honest k.carried;
             inside = k.inside;
+            frames = frames_fit k;
             framed = subst (λ (d : ℕ). Framed gr.words.now d r.top low) (sym k.forgotten.depth)
                 (subst (λ (e : ℕ). Framed gr.words.now fr.depth e low) (sym k.top)
                 (framed_same fr.words.now gr.words.now fr.depth q.top low

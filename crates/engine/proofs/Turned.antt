@@ -63,7 +63,14 @@ module _ (b : Book) (low : ℕ) (st : Store) (q : Roots) (fr : Frames) where
     pub top_frame : TopFrame (work st q fr) top
     top_frame =
         let w = framed_more rs low st q fr v ready.running pos in
-        record { some = pos; is = refl; few = w.0; enough = w.2; fits = ready.running.inside.fits }
+        record {
+          some = pos;
+          words = ready.running.frames.words;
+          is = refl;
+          few = w.0;
+          enough = w.2;
+          fits = ready.running.inside.fits;
+        }
 
     top_asked : AskedFor rs st fr (fr.depth - 1) (term_in st v.0)
     top_asked =

@@ -25,6 +25,11 @@ Remembered a b = (b ≡ None) ⊎ (b ≡ a)
 abbrev pub WordFor : Option Place → ℕ → Type 0
 WordFor a w = Remembered a (asked_in w)
 
+-- the frames fit in their words, and no more of them have forgotten what they asked for than there are
+pub record FramesFit (q : Frames) : Type 0 where
+  pub words : 4 * q.depth ≤ length q.words.now
+  pub fresh : q.fresh ≤ q.depth
+
 -- frame d is k, and those below it are as they were
 pub record PutAt (vs : List ℕ) (d : ℕ) (k : Frame) (ws : List ℕ) : Type 0 where
   pub long : length ws ≡ length vs
@@ -44,6 +49,7 @@ pub record FramePushed (q : Frames) (f n : ℕ) (p : Place) (r : Frames) : Type 
   pub asked : Remembered (Some p) kept
   pub words : PutAt q.words.now q.depth (record { sign = f; others = n; done = 0; asked = kept }) r.words.now
   pub depth : r.depth ≡ q.depth + 1
+  pub long : 4 * r.depth ≤ length r.words.now
   pub fresh : r.fresh ≡ q.fresh
 
 -- the top frame k has one more part done
@@ -65,6 +71,7 @@ pub record GoneOn (q : Frames) (p : Place) (r : Frames) : Type 0 where
 pub record Popped (q r : Frames) : Type 0 where
   pub words : r.words.now ≡ q.words.now
   pub depth : r.depth + 1 ≡ q.depth
+  pub fresh : r.fresh ≤ r.depth
   pub later : (d : ℕ) → r.fresh ≤ d → d < r.depth → q.fresh ≤ d
 
 -- what the top frame asked for, if that is known

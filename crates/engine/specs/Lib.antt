@@ -1,4 +1,5 @@
 -- Rewriting over the store: the definitions that the contracts cite.
+pub mod Lists
 pub mod Matching
 pub mod Building
 pub mod Rewriting

@@ -10,6 +10,7 @@ use Rattle.books.specs.declared.row.Book.{Book}
 use Rattle.books.specs.Books.{told}
 use Rattle.engine.specs.declared.types.NoRoom.{NoRoom}
 use Rattle.engine.specs.declared.work.Work.{Work}
+use Rattle.engine.specs.Frames.{FramesFit}
 use Rattle.engine.specs.Normal.{root_term}
 
 -- how many different parts a term may have, by the number of work words
@@ -56,6 +57,7 @@ pub record BothNormal (b : Book) (w v : Work) (x : Result (Unit {0}) NoRoom) : T
   pub room : v.store.room ≡ w.store.room
   pub cells : length v.roots.cells.now ≡ length w.roots.cells.now
   pub words : length v.frames.words.now ≡ length w.frames.words.now
+  pub frames : FramesFit v.frames
   pub result : BothOrRoom b w v x
 
 -- two terms are compared, and no words are lost
@@ -63,4 +65,5 @@ pub record RootsCompared (b : Book) (w v : Work) (x : Result Bool NoRoom) : Type
   pub room : v.store.room ≡ w.store.room
   pub cells : length v.roots.cells.now ≡ length w.roots.cells.now
   pub words : length v.frames.words.now ≡ length w.frames.words.now
+  pub frames : FramesFit w.frames → FramesFit v.frames
   pub result : (n : ℕ) → Ample n w → Compares b n (root_term w 0) (root_term w 1) x

@@ -8,6 +8,7 @@ use Rattle.books.specs.declared.row.Book.{Book}
 use Rattle.books.specs.Books.{told}
 use Rattle.engine.specs.declared.types.NoRoom.{NoRoom}
 use Rattle.engine.specs.declared.work.Work.{Work}
+use Rattle.engine.specs.Frames.{FramesFit}
 use Rattle.engine.specs.Spacing.{Wanting}
 
 -- the term of root i
@@ -48,5 +49,6 @@ pub record Normalized (b : Book) (w v : Work) (x : Result (Unit {0}) NoRoom) : T
   pub room : v.store.room ≡ w.store.room
   pub cells : length v.roots.cells.now ≡ length w.roots.cells.now
   pub words : length v.frames.words.now ≡ length w.frames.words.now
+  pub frames : FramesFit v.frames
   pub terms : (k : ℕ) → k < w.roots.top - 1 → root_term v k ≡ root_term w k
   pub result : NormalOrWanting b w v x

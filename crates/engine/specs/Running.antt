@@ -12,7 +12,7 @@ use Rattle.engine.specs.declared.types.Frames.{Frames}
 use Rattle.engine.specs.declared.types.Focus.{Focus}
 use Rattle.engine.specs.declared.types.Focus.TheVariants.{Eval, Back}
 use Rattle.engine.specs.declared.work.Work.{Work}
-use Rattle.engine.specs.Frames.{frame_at}
+use Rattle.engine.specs.Frames.{frame_at, FramesFit}
 
 -- the terms g from1, g (from1 + 1), .., n of them
 abbrev pub run : (ℕ → Term) → ℕ → ℕ → Terms
@@ -71,6 +71,7 @@ pub record Honest (rs : List Eq) (st : Store) : Type 0 where
 pub record Running (rs : List Eq) (low : ℕ) (w : Work) (c : Focus) : Type 0 where
   pub honest : Honest rs w.store
   pub inside : Inside w.store w.roots
+  pub frames : FramesFit w.frames
   pub framed : Framed w.frames.words.now w.frames.depth w.roots.top low
   pub focus : focus_place c < w.store.count
   pub asked : Asks (AskedFor rs w.store w.frames) (frames_in w) (term_in w.store (focus_place c))

@@ -14,7 +14,7 @@ use Rattle.engine.specs.declared.types.Focus.{Focus}
 use Rattle.engine.specs.declared.types.Focus.TheVariants.{Eval, Back}
 use Rattle.engine.specs.declared.types.NoRoom.{NoRoom}
 use Rattle.engine.specs.declared.work.Work.{Work}
-use Rattle.engine.specs.Frames.{Forgotten}
+use Rattle.engine.specs.Frames.{FramesFit, Forgotten}
 use Rattle.engine.specs.Running.{state_in, Honest, Running}
 use Rattle.engine.specs.Turning.{Goes, SpaceForTurn, Ready, KeptBelow}
 
@@ -52,6 +52,7 @@ pub record Halted (rs : List Eq) (low : ℕ) (w : Work) (u : Term) (v : Work) : 
   pub sound : Sound v.store
   pub honest : Honest rs v.store
   pub inside : Inside v.store v.roots
+  pub frames : FramesFit v.frames
   pub enough : low ≤ v.roots.top
   pub kept : KeptBelow low w v
   pub wanting : Wanting w.store.room (length w.frames.words.now) (length w.roots.cells.now) low (λ k. held w.store w.roots k) u

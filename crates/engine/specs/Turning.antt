@@ -84,6 +84,7 @@ TurnsFrom k w c v e = (low : ℕ) → Ready k low w c → TurnedTo (told k).rule
 -- the top frame, and its roots
 pub record TopFrame (w : Work) (k : Frame) : Type 0 where
   pub some : 0 < w.frames.depth
+  pub words : 4 * w.frames.depth ≤ length w.frames.words.now
   pub is : k ≡ frame_at w.frames.words.now (w.frames.depth - 1)
   pub few : k.others ≤ 3
   pub enough : k.others ≤ w.roots.top

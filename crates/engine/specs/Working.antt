@@ -14,6 +14,7 @@ pub record Fresh (w : ℕ) (k : Work) : Type 0 where
   pub top : k.roots.top ≡ 0
   pub inside : Inside k.store k.roots
   pub depth : k.frames.depth ≡ 0
+  pub forgotten : k.frames.fresh ≡ 0
   pub ample : Ample (most_parts w) k
   pub slots : 3 * most_parts w + 1000 ≤ k.store.room
 

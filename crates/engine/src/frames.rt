@@ -58,7 +58,8 @@ impl Frames<'_> {
 
     // The top frame.
     pub fn top(&self) -> Frame
-        requires { 0 < self.now.depth }
+        requires some { 0 < self.now.depth }
+        requires words { 4 * self.now.depth ≤ length self.now.words.now }
         ensures { result ≡ frame_at self.now.words.now (self.now.depth - 1) }
     {
         let d = self.depth - 1;
@@ -74,7 +75,8 @@ impl Frames<'_> {
 
     // What the top frame asked for, if it is known.
     pub fn asked(&self) -> Option<Place>
-        requires { 0 < self.now.depth }
+        requires some { 0 < self.now.depth }
+        requires words { 4 * self.now.depth ≤ length self.now.words.now }
         ensures { AskedTop self.now result }
     {
         if self.fresh < self.depth {
@@ -102,6 +104,7 @@ impl Frames<'_> {
     // One more part of the top frame is done, and the next is asked for.
     pub fn go_on(&mut self, asked: Place)
         requires some { 0 < self.old.depth }
+        requires words { 4 * self.old.depth ≤ length self.old.words.now }
         requires done { (frame_at self.old.words.now (self.old.depth - 1)).done < 3 }
         ensures { GoneOn self.old asked self.new }
     {

@@ -60,7 +60,7 @@ pub fn row_instance(parts: &[u32], row: &[u32], bindings: &Bindings, store: &mut
     let mut built = build_behind(parts, row, bindings, store);
     let symbol = symbol_at(row, 0).unwrap();
     build_symbol(parts, symbol, bindings, store, &mut built);
-    built[0]
+    built.as_slice()[0]
 }
 
 // The places of its n parts: the sign at its top is not made.

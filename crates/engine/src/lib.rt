@@ -4,10 +4,11 @@
 mod bindings;
 mod frames;
 pub mod instance;
+mod list;
 pub mod matching;
 mod meeting;
 mod normal;
-mod places;
+pub mod places;
 mod reducer;
 mod rows;
 pub mod rules;

@@ -4,7 +4,7 @@
 ghost use Rattle.std.specs.Prelude.{◌≡◌, ℕ, ◌<◌, ◌≤◌, List, length, Some};
 ghost use Rattle.rewriting.specs.Terms.{Term};
 ghost use Rattle.books.specs.Reading.{SymbolAt};
-ghost use Rattle.arrayvec.specs.ArrayVec.{array_vec_len};
+ghost use Rattle.engine.specs.Lists.{list_len};
 ghost use Rattle.store.specs.Stores.{term_in};
 ghost use Rattle.engine.specs.Matching.{given, AllInside, MatchedOn, Pattern, PlacesInside, SomePattern, Turns};
 
@@ -21,7 +21,7 @@ fn match_symbol(
     pending: &mut Pending,
     bindings: &mut Bindings,
 ) -> bool
-    requires some { (0 < array_vec_len pending.old) × (array_vec_len pending.old ≤ 32) }
+    requires some { (0 < list_len pending.old) × (list_len pending.old ≤ 32) }
     requires places_inside { PlacesInside store.now pending.old.items }
     ensures { (ws : List ℕ) (a : ℕ) → SymbolAt ws a (Some symbol) →
         Turns ws store.now a pending.old.items bindings.old pending.new.items bindings.new result }

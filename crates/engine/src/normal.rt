@@ -6,15 +6,14 @@ ghost use Rattle.engine.specs.Normal.{Normalized, Startable};
 ghost use Rattle.engine.specs.Reducers.{Lent};
 
 use crate::reducer::Reducer;
-use crate::types::{Focus, NoRoom};
+use crate::types::{Focus, NoRoom, Progress};
 use crate::work::Work;
 use books::Book;
 use std::ops::ControlFlow;
-use store::Place;
 
 impl Work<'_> {
     // One turn, if there is space for it: to the next focus, or to the end with a normal form.
-    fn step(&mut self, book: &Book, focus: Focus) -> Result<ControlFlow<Place, Focus>, NoRoom>
+    fn step(&mut self, book: &Book, focus: Focus) -> Progress
         requires { CanTurn book.now self.old focus }
         ensures { (low : ℕ) → Ready book.now low self.old focus → Stepped book.now low self.old focus self.new result }
     {

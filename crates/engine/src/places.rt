@@ -1,6 +1,6 @@
 // The places that are still to be matched, and those of terms that are built and not yet parts of another.
 ghost use Rattle.std.specs.Prelude.{◌≡◌, ◌+◌, ◌<◌, ◌≤◌};
-ghost use Rattle.arrayvec.specs.ArrayVec.{array_vec_len};
+ghost use Rattle.engine.specs.Lists.{list_len};
 ghost use Rattle.store.specs.Stores.{arity_in, parts_in};
 ghost use Rattle.engine.specs.Matching.{PartsPending, PlacesInside, Pushed};
 ghost use Rattle.engine.specs.Building.{PartTaken, Taken};
@@ -12,7 +12,7 @@ use store::{Node, Place, Store};
 // Stays beside the store's: that one fills roots and may refuse, and this one fills places and may not.
 fn push_parts(pending: &mut Pending, store: &Store, p: Place, n: usize)
     requires parts { (p.0 < store.now.count) × ((arity_in store.now p.0 ≡ n) × (n ≤ 4)) }
-    requires room { array_vec_len pending.old + n ≤ 36 }
+    requires room { list_len pending.old + n ≤ 36 }
     requires places_inside { PlacesInside store.now pending.old.items }
     ensures { Pushed store.now pending.old.items (parts_in store.now p.0 n) pending.new.items }
 {
@@ -26,7 +26,7 @@ fn push_parts(pending: &mut Pending, store: &Store, p: Place, n: usize)
 // Stays a bool: a sign is f or is another, and that is all there is to say.
 pub fn open(pending: &mut Pending, store: &Store, p: Place, f: u32) -> bool
     requires inside { p.0 < store.now.count }
-    requires room { array_vec_len pending.old + 4 ≤ 36 }
+    requires room { list_len pending.old + 4 ≤ 36 }
     requires places_inside { PlacesInside store.now pending.old.items }
     ensures { PartsPending store.now p f pending.old.items pending.new.items result }
 {
@@ -41,7 +41,7 @@ pub fn open(pending: &mut Pending, store: &Store, p: Place, f: u32) -> bool
 
 // Part k of n: the next place, which is taken, if there is such a part.
 fn take_part(built: &mut Built, k: usize, n: usize) -> Place
-    requires { k < n → 0 < array_vec_len built.old }
+    requires { k < n → 0 < list_len built.old }
     ensures { PartTaken built.old.items k n result built.new.items }
 {
     if k < n {
@@ -54,7 +54,7 @@ fn take_part(built: &mut Built, k: usize, n: usize) -> Place
 // Takes the last n places, to be the parts of a sign: the last one is the first part.
 // Stays an array, of which the first n count: a slot has cells for four parts.
 pub fn take(built: &mut Built, n: usize) -> [Place; 4]
-    requires { (n ≤ 4) × (n ≤ array_vec_len built.old) }
+    requires { (n ≤ 4) × (n ≤ list_len built.old) }
     ensures { Taken built.old.items n result built.new.items }
 {
     // Stays four calls: with a loop a run that counts down takes a tenth longer.

@@ -2,16 +2,17 @@
 // Stays in the contracts that a turn can be taken: it relates a book, the work words and a focus, and each turn changes all but the book.
 // Stays with `book` beside `Work`: `Ready` says more than a `Reducer` keeps, and that would have to be shown honest after each write.
 // Stays in the contracts that there is space for a turn: it is so only after it was seen to, and the turn uses it up.
-ghost use Rattle.std.specs.Prelude.{◌≡◌, ◌+◌, ◌-◌, ◌*◌, ◌<◌, ◌≤◌, List, length, slice_index_or};
+ghost use Rattle.std.specs.Prelude.{◌≡◌, ◌≢◌, ◌+◌, ◌-◌, ◌*◌, ◌<◌, ◌≤◌, List, length, None, slice_index_or};
 ghost use Rattle.rewriting.specs.Rules.{Eq, Done};
 ghost use Rattle.rewriting.specs.Machine.{Still};
-ghost use Rattle.rewriting.specs.Terms.{sign};
+ghost use Rattle.rewriting.specs.Terms.{Term, sign};
 ghost use Rattle.store.specs.Stores.{term_in, arity_in, part_in, parts_in};
+ghost use Rattle.store.specs.Transfers.{RowOf};
 ghost use Rattle.store.specs.Stacks.{root_in};
 ghost use Rattle.store.specs.Roots.{HasRoots};
 ghost use Rattle.books.specs.Books.{told};
 ghost use Rattle.engine.specs.declared.types.Focus.TheVariants.{Eval, Back};
-ghost use Rattle.engine.specs.Rewriting.{Rewritable};
+ghost use Rattle.engine.specs.Rewriting.{Rewritable, Opening};
 ghost use Rattle.engine.specs.Running.{Honest};
 ghost use Rattle.engine.specs.Turning.{KnownNormal, Advanced, Applied, OthersPushed, PartsGathered, BegunAt, TurnsFrom, TurnsOrStill};
 ghost use Rattle.engine.specs.Turning.{CanTurn, TopFrame, SpaceForTurn};
@@ -108,11 +109,25 @@ fn gather_parts(roots: &Roots, from: usize, n: usize, v: Place) -> [Place; 4]
 }
 
 impl Work<'_> {
-    // To the first of n + 1 parts of the sign f, which stand at the places. There is no slot for the sign over them yet.
+    // What `opening` says of a right side, if a frame is left after the one for its sign. Where none is left, the sign is made: its normal
+    // form may be known, and then it wants no frame at all.
+    fn opening_with_space(&self, book: &Book, right: &[u32]) -> Option<(u32, usize)>
+        requires { (t : Term) × RowOf (told book.now).parts right.now t }
+        ensures opening { Opening (told book.now).parts right.now result }
+        ensures space { result ≢ None → 4 * (self.now.frames.depth + 2) ≤ length self.now.frames.words.now }
+    {
+        if (self.frames.words.len() / 4).saturating_sub(self.frames.depth) < 2 {
+            return None;
+        }
+        opening(book, right)
+    }
+
+    // To the first of n + 1 parts of the sign f, which stand at the places. There is no slot for the sign over them yet. A frame is left for
+    // work at the parts.
     fn begin(&mut self, f: u32, n: usize, places: [Place; 4]) -> Focus
         requires few { n ≤ 3 }
         requires roots { HasRoots self.old.roots.cells.now (self.old.roots.top + 3) }
-        requires frames { 4 * (self.old.frames.depth + 1) ≤ length self.old.frames.words.now }
+        requires frames { 4 * (self.old.frames.depth + 2) ≤ length self.old.frames.words.now }
         ensures { BegunAt self.old f n places self.new result }
     {
         push_places(&mut self.roots, &places[1..=n]);
@@ -121,7 +136,7 @@ impl Work<'_> {
     }
 
     // To what the lowest-numbered rule that can be used at the top of the term at p makes of it, if there is one. If no rule could be used
-    // on that in turn, it is not made: only its parts are, and work goes on at the first of them.
+    // on that in turn and there are frames enough, it is not made: only its parts are, and work goes on at the first of them.
     fn by_rule(&mut self, book: &Book, p: Place) -> Option<Focus>
         requires can_turn { CanTurn book.now self.old (Eval p) }
         requires space { SpaceForTurn self.old }
@@ -130,7 +145,7 @@ impl Work<'_> {
         let mut bindings = Bindings::new();
         let i = find_rule(book, &self.store, p, &mut bindings)?;
         let right = book.rule(i).right;
-        let Some((g, n)) = opening(book, right) else {
+        let Some((g, n)) = self.opening_with_space(book, right) else {
             let q = row_instance(book.parts(), right, &bindings, &mut self.store);
             return Some(Focus::Eval(q));
         };

@@ -43,6 +43,14 @@ rules
   drop(x) -> zero
 ";
 
+    // A box, and a sign that comes to a box.
+    const BOXES: &str = "
+signs zero/0 next/1 pair/2 box/1 open/1
+letters x
+rules
+  open(x) -> box(x)
+";
+
     // Whether the terms of two rows have one normal form; nothing if the words are no book whose rules go down, or no terms.
     fn compared(
         words: &[u32],
@@ -69,7 +77,31 @@ rules
         Ok(words)
     }
 
-    // Whether two terms have one normal form, if that is found with 16,384 work words, and 64 for each word of the book and so many more.
+    // The words of a book.
+    fn book_words(heap: Global, book: &str) -> Result<Vec<u32>, Fail> {
+        match parse(heap, book) {
+            Ok(book) => Ok(book.words),
+            Err(e) => Err(Fail::new(e)),
+        }
+    }
+
+    // Whether two terms have one normal form, if that is found with 16,384 work words and 64 for each of so many frames more than four.
+    fn same_within(
+        heap: Global,
+        book: &[u32],
+        left: &[u32],
+        right: &[u32],
+        frames: usize,
+    ) -> Result<Option<bool>, Fail> {
+        let words = frames.saturating_mul(64).saturating_add(16384);
+        let mut work = vec![in heap; 0; words]?;
+        match compared(book, left, right, work.as_mut_slice()) {
+            Some(Ok(same)) => Ok(Some(same)),
+            _ => Ok(None),
+        }
+    }
+
+    // The same with as many frames more as the book has words, and so many more.
     fn same(
         heap: Global,
         book: &str,
@@ -77,16 +109,9 @@ rules
         right: &[u32],
         more: usize,
     ) -> Result<Option<bool>, Fail> {
-        let book = match parse(heap, book) {
-            Ok(book) => book,
-            Err(e) => return Err(Fail::new(e)),
-        };
-        let words = book.words.len().saturating_add(more).saturating_mul(64);
-        let mut work = vec![in heap; 0; words.saturating_add(16384)]?;
-        match compared(book.words.as_slice(), left, right, work.as_mut_slice()) {
-            Some(Ok(same)) => Ok(Some(same)),
-            _ => Ok(None),
-        }
+        let book = book_words(heap, book)?;
+        let frames = book.len().saturating_add(more);
+        same_within(heap, book.as_slice(), left, right, frames)
     }
 
     #[test]
@@ -113,6 +138,22 @@ rules
         let start = tower(heap, 5, 1, doubles.as_slice())?;
         assert!(rt; same(heap, DOUBLES, doubles.as_slice(), &[1, 0], 0)? == None);
         assert!(rt; same(heap, DOUBLES, start.as_slice(), &[1, 0], 0)? == Some(true));
+        Ok(())
+    }
+
+    #[test]
+    fn known_at_the_last_frame(rt: HostRuntime) -> Result<(), Fail> {
+        // The least work words have four frames. Under a pair and two signs an opened box, which is known already, needs no frame of its
+        // own; under three signs there is no room for the sign that is to be opened.
+        let heap = rt.alloc();
+        let book = book_words(heap, BOXES)?;
+        let book = book.as_slice();
+        let boxed = [1, 2, 1, 3, 1, 0, 1, 1, 1, 1, 1, 3, 1, 0];
+        let start = [1, 2, 1, 3, 1, 0, 1, 1, 1, 1, 1, 4, 1, 0];
+        let deeper = [1, 2, 1, 3, 1, 0, 1, 1, 1, 1, 1, 1, 1, 4, 1, 0];
+        assert!(rt; same_within(heap, book, &start, &boxed, 0)? == Some(true));
+        assert!(rt; same_within(heap, book, &deeper, &boxed, 0)? == None);
+        assert!(rt; same_within(heap, book, &deeper, &boxed, 1)? == Some(false));
         Ok(())
     }
 

@@ -1,5 +1,6 @@
 -- Where the parts of a term stand in its row, and where one rule's left side may be put on a part of another's.
-use Rattle.std.specs.Prelude.{◌≡◌, ℕ, ◌+◌, ◌*◌, ◌<◌, List, ◌∷◌, ◌++◌, length, take, drop, Some, None, Option as Maybe, ◌≢◌}
+use Rattle.std.specs.Prelude.{◌≡◌, ℕ, ◌+◌, ◌*◌, ◌<◌, ◌≤◌, List, ◌∷◌, ◌++◌, length, take, drop, ◌≢◌}
+use Rattle.std.specs.Prelude.{Some, None, Option as Maybe}
 use Rattle.rewriting.specs.Terms.{Term, sign, Terms, put, size}
 use Rattle.rewriting.specs.Rules.{Part, renamed}
 use Rattle.critical_pairs.specs.OverlapList.{index}
@@ -8,6 +9,7 @@ use Rattle.books.specs.declared.words.Symbol.TheVariants.{Sign}
 use Rattle.books.specs.Reading.{SymbolAt}
 use Rattle.books.specs.Books.{told, rule_in}
 use Rattle.overlaps.specs.declared.types.Overlap.{Overlap}
+use Rattle.overlaps.specs.declared.types.Row.{Row}
 
 -- the words of a part
 pub record At {v t : Term} (place : Part v t) (a z : ℕ) : Type 0 where
@@ -44,3 +46,8 @@ OverlapOrNone b i j k None = (f : ℕ) (vs : Terms) (place : Part (sign f vs) (r
 -- the words with letter 16, a hole, for those from one place up to another
 abbrev pub holed : List ℕ → ℕ → ℕ → List ℕ
 holed ws a z = take a ws ++ (0 ∷ 16 ∷ drop z ws)
+
+-- the first words of r, as many as its length says, are those of the row with such a hole
+pub record WithHole (ws : List ℕ) (a z : ℕ) (r : Row) : Type 0 where
+  pub short : r.len ≤ length r.words
+  pub is : take r.len r.words ≡ holed ws a z

@@ -3,7 +3,7 @@ ghost use Rattle.std.specs.Prelude.{◌≡◌, ◌+◌, ◌<◌, ◌≤◌, leng
 ghost use Rattle.rewriting.specs.Terms.{size};
 ghost use Rattle.rewriting.specs.Answers.{Tells};
 ghost use Rattle.books.specs.Books.{told, rule_in};
-ghost use Rattle.overlaps.specs.Positions.{holed, SameSign, OverlapOrNone};
+ghost use Rattle.overlaps.specs.Positions.{SameSign, OverlapOrNone, WithHole};
 
 use crate::types::{HOLE, Overlap, Row};
 use books::words::{Letters, Symbol, symbol_at, term_end};
@@ -44,13 +44,12 @@ pub fn overlap_at(rules: &Terminating, i: usize, j: usize, k: usize) -> Option<O
 // Stays a row with two places: they divide it in three, and the middle is left out.
 pub fn with_hole(row: &[u32], from: usize, to: usize) -> Row
     requires { (from + 2 ≤ to) × ((to ≤ length row.now) × (length row.now ≤ 64)) }
-    ensures { result.items ≡ holed row.now from to }
+    ensures { WithHole row.now from to result }
 {
-    let mut holed = Row::new();
-    holed.try_extend_from_slice(&row[..from]).unwrap();
-    holed
-        .try_extend_from_slice(&Symbol::Letter(HOLE as u32).words())
-        .unwrap();
-    holed.try_extend_from_slice(&row[to..]).unwrap();
-    holed
+    let len = from + 2 + (row.len() - to);
+    let mut words = [0; 64];
+    words[..from].copy_from_slice(&row[..from]);
+    words[from..from + 2].copy_from_slice(&Symbol::Letter(HOLE as u32).words());
+    words[from + 2..len].copy_from_slice(&row[to..]);
+    Row { words, len }
 }

@@ -46,7 +46,7 @@ fn results(book: &Book, overlap: Overlap, unifier: &Bindings, store: &mut Store)
     );
     let context = with_hole(left, overlap.from, overlap.to);
     let filling = bind_hole(unifier, inner);
-    let second = row_instance(book.parts(), context.as_slice(), &filling, store);
+    let second = row_instance(book.parts(), &context.words[..context.len], &filling, store);
     Pair { first, second }
 }
 

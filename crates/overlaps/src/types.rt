@@ -1,5 +1,4 @@
 // The letters of rules and of a hole; and the types: an overlap of two rules, its two results, and the row of a term.
-use arrayvec::ArrayVec;
 use store::Place;
 
 // Letters of rules are below this; those of the second rule are renamed by it.
@@ -26,5 +25,10 @@ pub struct Pair {
     pub second: Place,
 }
 
-// The row of a term of at most 32 symbols.
-pub type Row = ArrayVec<u32, 64>;
+// The row of a term of at most 32 symbols: the first `len` words.
+// Stays an array with a length: it can be copied, as no vector can.
+#[derive(Clone, Copy)]
+pub struct Row {
+    pub words: [u32; 64],
+    pub len: usize,
+}

@@ -22,13 +22,13 @@ build_symbol-requires-clause-buildable c =
 pub returns : goal.returns
 returns c t f =
     let a = c.args.store.now in let b = c.args.bindings.now in
-    subst (λ (xs : List Place). RowInstanceBuilt a b t c.build_symbol.new.store (get_or xs 0 (record { 0 = 0 }))) (sym c.deref.ensures.0)
+    subst (λ (xs : List Place). RowInstanceBuilt a b t c.build_symbol.new.store (get_or xs 0 (record { 0 = 0 }))) (sym c.as_slice.ensures.value)
     (first_built c.args.parts.now c.args.row.now c.requires.few_parts.0 t a b f c.requires.space.1
     c.build_behind-built.new.store c.build_behind-built.result.items (c.build_behind-built.ensures t f) _ c.unwrap-symbol.result
     c.unwrap-symbol.ensures c.symbol_at.ensures c.build_symbol.new.store c.build_symbol.new.built.items c.build_symbol.ensures)
 
-pub bounds-deref-0 : goal.bounds-deref-0
-bounds-deref-0 c =
+pub bounds-as_slice-0 : goal.bounds-as_slice-0
+bounds-as_slice-0 c =
     let (t, f) = c.requires.few_parts.1 in
     omega (
       arith,
@@ -36,5 +36,5 @@ bounds-deref-0 c =
           c.requires.space.1 c.build_behind-built.new.store c.build_behind-built.result.items (c.build_behind-built.ensures t f) _
           c.unwrap-symbol.result c.unwrap-symbol.ensures c.symbol_at.ensures c.build_symbol.new.store c.build_symbol.new.built.items
           c.build_symbol.ensures,
-      ap length c.deref.ensures.0,
+      ap length c.as_slice.ensures.value,
     )

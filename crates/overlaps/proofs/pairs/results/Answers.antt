@@ -1,5 +1,4 @@
 -- The right sides, and the left side with a hole, are built one after the other.
-use Rattle.std.proofs.Common.{◌∙◌}
 use Rattle.overlaps.proofs.Positions.{at_within, at_some}
 use Rattle.overlaps.proofs.Overlapping.{side_short}
 use Rattle.overlaps.proofs.Pairing.{outer_fills, inner_fills, context_fills, results_built}
@@ -26,12 +25,12 @@ pub row_instance-second-requires : goal.row_instance-second-requires
 row_instance-second-requires c =
     let h = context_fills c.args.book.now c.requires.stands.0 c.requires.stands.1 c.requires.space c.parts.ensures c.rule.ensures.right
     c.row_instance-first.ensures c.shifted-renamed.ensures c.parts-2.ensures c.rule-2.ensures.right
-    c.row_instance-inner.ensures c.rule.ensures.left (c.as_slice.ensures.value ∙ c.with_hole-context.ensures) c.bind_hole-filling.ensures
+    c.row_instance-inner.ensures c.rule.ensures.left c.with_hole-context.ensures.is c.bind_hole-filling.ensures
     c.parts-3.ensures in
     record { few_parts = h.0; space = h.1 }
 
 pub returns : goal.returns
 returns c = results_built c.args.book.now c.requires.stands.0 c.requires.stands.1 c.requires.space c.parts.ensures c.rule.ensures.right
     c.row_instance-first.ensures c.shifted-renamed.ensures c.parts-2.ensures c.rule-2.ensures.right
-    c.row_instance-inner.ensures c.rule.ensures.left (c.as_slice.ensures.value ∙ c.with_hole-context.ensures) c.bind_hole-filling.ensures
+    c.row_instance-inner.ensures c.rule.ensures.left c.with_hole-context.ensures.is c.bind_hole-filling.ensures
     c.parts-3.ensures c.row_instance-second.ensures

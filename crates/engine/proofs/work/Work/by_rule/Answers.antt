@@ -12,8 +12,8 @@ find_rule-requires c =
     eval_rewritable c.args.book.now c.requires.can_turn.0 c.args.self.now.store c.args.self.now.roots c.args.self.now.frames c.args.p
     c.requires.can_turn.1
 
-pub opening-requires : goal.opening-requires
-opening-requires c =
+pub opening_with_space-requires : goal.opening_with_space-requires
+opening_with_space-requires c =
     let w = c.args.self.now in (
       _,
       (filled c.args.book.now _ w.store w.roots w.frames c.args.p c.requires.can_turn.1 _ c.find_rule.new.bindings c.in_ok-i.ensures _ _
@@ -58,8 +58,8 @@ row_parts-places-requires-clause-arity c =
     let k = c.args.book.now in let w = c.args.self.now in
     let f = filled k _ w.store w.roots w.frames c.args.p c.requires.can_turn.1 _ c.find_rule.new.bindings c.in_ok-i.ensures _ _ refl
     c.rule.ensures.right in (
-      opening_few (told k).parts _ _ f.row c.in-Some.g c.in-Some.n c.in-Some.ensures (few_of k _ refl),
-      λ t h. opening_arity (told k).parts _ t (rw c.parts-2.ensures at h.row) c.in-Some.g c.in-Some.n c.in-Some.ensures,
+      opening_few (told k).parts _ _ f.row c.in-Some.g c.in-Some.n c.in-Some.ensures.opening (few_of k _ refl),
+      λ t h. opening_arity (told k).parts _ t (rw c.parts-2.ensures at h.row) c.in-Some.g c.in-Some.n c.in-Some.ensures.opening,
     )
 
 pub begin-requires-clause-few : goal.begin-requires-clause-few
@@ -67,7 +67,7 @@ begin-requires-clause-few c =
     let k = c.args.book.now in let w = c.args.self.now in
     let f = filled k _ w.store w.roots w.frames c.args.p c.requires.can_turn.1 _ c.find_rule.new.bindings c.in_ok-i.ensures _ _ refl
     c.rule.ensures.right in
-    omega (arith, opening_few (told k).parts _ _ f.row c.in-Some.g c.in-Some.n c.in-Some.ensures (few_of k _ refl))
+    omega (arith, opening_few (told k).parts _ _ f.row c.in-Some.g c.in-Some.n c.in-Some.ensures.opening (few_of k _ refl))
 
 pub returns : goal.returns
 returns c low ready =
@@ -76,7 +76,7 @@ returns c low ready =
     let can = filled k low st q fr c.args.p ready _ c.find_rule.new.bindings c.in_ok-i.ensures in
     let f = can _ _ refl c.rule.ensures.right in
     by_opening k low st q fr c.args.p ready.running c.in_ok-i.i c.find_rule.new.bindings found c.rule.result.right.now c.in-Some.g
-    c.in-Some.n f.row c.in-Some.ensures
-    (opening_few (told k).parts _ _ f.row c.in-Some.g c.in-Some.n c.in-Some.ensures (few_of k _ refl))
+    c.in-Some.n f.row c.in-Some.ensures.opening
+    (opening_few (told k).parts _ _ f.row c.in-Some.g c.in-Some.n c.in-Some.ensures.opening (few_of k _ refl))
     c.row_parts-places.new.store c.row_parts-places.result (c.row_parts-places.ensures _ (can _ _ c.parts-2.ensures c.rule.ensures.right))
     c.requires.space.roots c.begin.new.self c.begin.result c.begin.ensures
