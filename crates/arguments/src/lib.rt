@@ -1,8 +1,7 @@
 // What the programs are asked for on their command lines.
 #![tactic(auto)]
 
-ghost use Rattle.std.specs.Prelude.{◌≤◌, IfOk};
-ghost use Rattle.arguments.specs.declared.TheConstants.{MOST_WORK};
+ghost use Rattle.std.specs.Prelude.{◌≡◌, ◌≤◌, IfOk};
 
 mod program;
 
@@ -41,7 +40,7 @@ pub struct Options<'a> {
     pub book: Option<Input<'a>>,
     // the pairs of terms that `tell` compares
     pub pairs: Option<Input<'a>>,
-    pub ghost within: { work ≤ MOST_WORK },
+    pub ghost within: { work ≤ 851968 },
 }
 
 #[derive(Clone, Copy, Debug, PartialEq, Eq)]
@@ -104,7 +103,7 @@ fn named_input(word: &str) -> Result<Input<'_>, Refusal<'_>> {
 
 // The number of work words that the argument writes, if these fit.
 fn work_words(argument: Option<&String>) -> Result<usize, Refusal<'_>>
-    ensures { IfOk result (λ n. n ≤ MOST_WORK) }
+    ensures { IfOk result (λ n. n ≤ 851968) }
 {
     let digits = argument.ok_or(Refusal::NoNumber)?.as_str();
     match digits.parse::<usize>() {
@@ -115,8 +114,10 @@ fn work_words(argument: Option<&String>) -> Result<usize, Refusal<'_>>
 
 // Stays with the program as a parameter, here and below: it says how many files there may be, and all else is the same.
 impl<'a> Options<'a> {
-    // Takes one more file, if the program has use for it.
-    fn add_file(&mut self, program: Program, word: &'a str) -> Result<(), Refusal<'a>> {
+    // Takes one more file, if the program has use for it. The work words are as they were.
+    fn add_file(&mut self, program: Program, word: &'a str) -> Result<(), Refusal<'a>>
+        ensures { self.new.work ≡ self.old.work }
+    {
         let input = named_input(word)?;
         match (self.book, self.pairs, program) {
             (None, _, _) => self.book = Some(input),
