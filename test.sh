@@ -1,8 +1,8 @@
 #!/bin/sh
 # The tests: proves every crate from nothing, tries the must-fail edits, runs the programs and the crates' tests. Then asks the programs
-# that were built of every example book, counts their memory, tries run.sh, and compares them with a second judge. How far the proofs are is
-# told on the standard error. The last line is 'N passed, 0 failed', and counts what the toolchain ran; the status is 0 if all went well, and
-# if each must-fail edit fits the text that it edits.
+# that were built of every example book, tries in which pieces answers come, counts their memory, tries run.sh, and compares them with a
+# second judge. How far the proofs are is told on the standard error. The last line is 'N passed, 0 failed', and counts what the toolchain
+# ran; the status is 0 if all went well, and if each must-fail edit fits the text that it edits.
 set -eu
 top=$(dirname "$(readlink -f "$0")")
 cd "$top"
@@ -64,7 +64,7 @@ fi
 
 judge=crates/judge/out/judge
 tell=crates/tell/out/tell
-for test in books memory run outside; do
+for test in books lines memory run outside; do
     "tests/$test.sh" "$judge" "$tell" || status=1
 done
 cat "$folder/last"

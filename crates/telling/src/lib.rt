@@ -2,6 +2,7 @@
 #![tactic(auto)]
 
 mod lines;
+mod out;
 mod pairs;
 mod session;
 

@@ -1,6 +1,6 @@
 // Pairs of terms from a text, each answered on a line.
-use crate::lines::{BLOCK, Lines, MOST_LINE, Next};
-use answers::told_words;
+use crate::lines::{Lines, MOST_LINE, Next};
+use crate::out::Out;
 use arguments::{Input, Stopped};
 use equal::Told;
 use lexing::fault::{Error, on_line};
@@ -8,7 +8,7 @@ use lexing::pairs::{Line, Pair};
 use notation::parse_pair;
 use notation::signature::Signature;
 use std::io;
-use std::io::{BufWriter, Read, Stdout, Write};
+use std::io::Read;
 
 // Where pairs come from: by which name messages tell of them, and the names of signs and letters, if they are not rows.
 #[derive(Clone, Copy)]
@@ -34,7 +34,7 @@ pub(crate) struct Pairs<'a, R> {
     asking: Asking<'a>,
     lines: Lines<R>,
     pair: Pair,
-    out: BufWriter<Stdout>,
+    out: Out,
 }
 
 impl<'a, R: Read + Drop> Pairs<'a, R> {
@@ -44,13 +44,13 @@ impl<'a, R: Read + Drop> Pairs<'a, R> {
             asking,
             lines: Lines::new(heap, reader)?,
             pair: Pair::new(heap)?,
-            out: BufWriter::with_capacity(heap, BLOCK, asking.rt.stdout())?,
+            out: Out::new(heap, asking.rt.stdout())?,
         })
     }
 
     // Writes an answer on a line of its own, once there are more of them or `flush` is called.
     pub(crate) fn answer(&mut self, told: Told) -> io::Result<()> {
-        writeln!(self.out, "{}", told_words(told))
+        self.out.add(told)
     }
 
     // Writes all answers that are held.
@@ -59,8 +59,9 @@ impl<'a, R: Read + Drop> Pairs<'a, R> {
     }
 
     // Answers a line that is too long, and goes on behind it.
-    fn skip_line(&mut self, number: usize) -> Result<(), Stopped> {
+    fn skip_line(&mut self) -> Result<(), Stopped> {
         let Asking { rt, input, .. } = self.asking;
+        let number = self.lines.number;
         eprintln!(rt; "{input}:{number}:1: expected a line of at most {MOST_LINE} bytes")?;
         self.answer(Told::NoTerm)?;
         self.flush()?;
@@ -68,24 +69,32 @@ impl<'a, R: Read + Drop> Pairs<'a, R> {
         Ok(())
     }
 
-    // The next pair. Lines before it that have none are answered, if they are not blank. Since reading may take long, all answers are
-    // written before.
+    // What comes next. Since reading may take long, all answers are written before.
+    fn next_line(&mut self) -> io::Result<Next> {
+        if let Some(line) = self.lines.at_hand() {
+            return Ok(line);
+        }
+        self.flush()?;
+        self.lines.read_on()
+    }
+
+    // The next pair. Lines before it that have none are answered, if they are not blank.
     pub(crate) fn next(&mut self) -> Result<Option<&Pair>, Stopped> {
         // Stays a counted loop: a text may come without end, and the count shows that the loop has one.
         for _turn in 0..u64::MAX {
-            if !self.lines.is_at_hand() {
-                self.flush()?;
-            }
-            match self.lines.next()? {
+            match self.next_line()? {
                 Next::End => break,
-                Next::TooLong(number) => self.skip_line(number)?,
-                Next::Line(number, line) => match self.asking.read(line, &mut self.pair) {
+                Next::TooLong => self.skip_line()?,
+                Next::Line(from, to) => match self
+                    .asking
+                    .read(self.lines.bytes(from, to), &mut self.pair)
+                {
                     Ok(Line::Pair) => return Ok(Some(&self.pair)),
                     Ok(Line::Blank) => {}
                     Ok(Line::Long) => self.answer(Told::Small)?,
                     Err(e) => {
                         let Asking { rt, input, .. } = self.asking;
-                        let fault = on_line(e, number);
+                        let fault = on_line(e, self.lines.number);
                         eprintln!(rt; "{input}:{fault}")?;
                         self.answer(Told::NoTerm)?;
                     }

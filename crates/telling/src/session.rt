@@ -1,5 +1,5 @@
 // All pairs of a text, by one book.
-ghost use Rattle.std.specs.Prelude.{List, ℕ};
+ghost use Rattle.std.specs.Prelude.{length};
 ghost use Rattle.equal.specs.Promises.{ToldPost};
 ghost use Rattle.equal.specs.SessionRows.{SessionOn};
 
@@ -9,13 +9,22 @@ use equal::{Session, Told};
 use lexing::pairs::Pair;
 use std::io::Read;
 
-// What is said of a pair: what `equal::tell` says of its two rows.
-fn tell_pair(session: &mut Session<'_, '_>, pair: &Pair) -> Told
-    ensures same { (s h : List ℕ) (w : ℕ) → SessionOn session.old s h w → SessionOn session.new s h w }
-    ensures told { (s h : List ℕ) (w : ℕ) → SessionOn session.old s h w →
-        ToldPost s h pair.now.one.items pair.now.other.items w result }
+// The rows of a book and its ways, and how many work words there are.
+#[derive(Clone, Copy, Debug, PartialEq, Eq)]
+struct Given<'a> {
+    book: &'a [u32],
+    ways: &'a [u32],
+    work: usize,
+}
+
+// What is said of a pair by what is given: what `equal::tell` says of its two rows.
+fn tell_pair(given: Given<'_>, session: &mut Session<'_, '_>, pair: &Pair) -> Told
+    requires { SessionOn session.old given.book.now given.ways.now given.work }
+    ensures same { SessionOn session.new given.entry.book.now given.entry.ways.now given.entry.work }
+    ensures told { ToldPost given.entry.book.now given.entry.ways.now pair.now.one.items pair.now.other.items
+        given.entry.work result }
 {
-    session.tell(&pair.one, &pair.other)
+    session.tell(pair.one.as_slice(), pair.other.as_slice())
 }
 
 // Judges the book, and answers all pairs that the reader gives.
@@ -27,6 +36,11 @@ pub fn tell_pairs<'a, R: Read>(
     ways: &'a [u32],
     work: &mut [u32],
 ) -> Result<(), Stopped> {
+    let given = Given {
+        book,
+        ways,
+        work: work.len(),
+    };
     let mut session = Session::new(book, ways, work);
     // The memory for pairs is taken only now: judging needs none of it.
     let mut pairs = Pairs::new(asking, reader)?;
@@ -35,7 +49,7 @@ pub fn tell_pairs<'a, R: Read>(
         let Some(pair) = pairs.next()? else {
             break;
         };
-        let told = tell_pair(&mut session, pair);
+        let told = tell_pair(given, &mut session, pair);
         pairs.answer(told)?;
     }
     pairs.flush()?;
