@@ -62,5 +62,5 @@ came 'tell with a long text'
     status=1
 }
 came "tell whose complaint can't be written"
-echo "3 texts answered in whole lines and in order"
+echo "3 texts told with complaints between the answers"
 exit $status
