@@ -1,5 +1,5 @@
 // Pairs of terms, one a line, as rows of decimal words with `|` between them.
-ghost use Rattle.std.specs.Prelude.{◌≤◌, vec_len};
+ghost use Rattle.std.specs.Prelude.{◌≡◌, ◌≤◌, IfOk, vec_len};
 
 use crate::cursor::Cursor;
 use crate::fault::{Error, Expected};
@@ -28,8 +28,10 @@ pub struct Pair {
 }
 
 impl Pair {
-    // With space for the longest rows.
-    pub fn new(heap: Global) -> Result<Pair, AllocError> {
+    // With space for the longest rows. There are no words in them yet.
+    pub fn new(heap: Global) -> Result<Pair, AllocError>
+        ensures { IfOk result (λ pair. (vec_len pair.one ≡ 0) × (vec_len pair.other ≡ 0)) }
+    {
         Ok(Pair {
             one: Vec::with_capacity(heap, MOST_TERM)?,
             other: Vec::with_capacity(heap, MOST_TERM)?,

@@ -13,7 +13,7 @@ use Rattle.books.proofs.Elements.{nth_is}
 use Rattle.books.proofs.Glueing.{row_length}
 use Rattle.books.proofs.Unique.{row_once}
 use Rattle.order.specs.declared.terms.Parts.{Parts}
-use Rattle.order.specs.Comparing.{Stands, Stand, Split, Splits}
+use Rattle.order.specs.Comparing.{Stands, Stand, Split, Splits, SplitsByWords}
 
 pub rank_getD : (rs : List ℕ) (f : ℕ) → rank rs f ≡ get_or rs f 0
 rank_getD [] f = refl
@@ -114,5 +114,8 @@ module _ (ps ws : List ℕ) (p : Parts) where
     }
 
     pub splits_some : Splits ps ws p (Some q)
-    splits_some =
-        (omega (arith, end.2.long, size_some end.0), end.2.within, splits, words_of ps ws p.start q.start end)
+    splits_some = (omega (arith, end.2.long, size_some end.0), end.2.within, splits)
+
+    -- and the words of the first
+    pub splits_by_words : SplitsByWords ps ws p (Some q)
+    splits_by_words = (splits_some, words_of ps ws p.start q.start end)

@@ -54,11 +54,16 @@ pub record Split (ps ws : List ℕ) (p q : Parts) (ts : Terms) : Type 0 where
   pub there : Stands ps ws p.start first
   pub behind : Stand ps ws q others
 
--- where the others stand, and the words of the first before them; or that there are no terms
+-- where the others stand, or that there are no terms
 abbrev pub Splits : List ℕ → List ℕ → Parts → Maybe Parts → Type 0
 Splits ps ws p (Some q) = (p.start < q.start) × (q.start ≤ length ws) × ((ts : Terms) → Stand ps ws p ts → Split ps ws p q ts)
-    × ((t : Term) → Stands ps ws p.start t → take (q.start - p.start) (drop p.start ws) ≡ row t)
 Splits ps ws p None = (ts : Terms) → Stand ps ws p ts → ts ≡ none1
+
+-- where the others stand, and the words of the first before them; or that there are no terms
+abbrev pub SplitsByWords : List ℕ → List ℕ → Parts → Maybe Parts → Type 0
+SplitsByWords ps ws p (Some q) = Splits ps ws p (Some q)
+    × ((t : Term) → Stands ps ws p.start t → take (q.start - p.start) (drop p.start ws) ≡ row t)
+SplitsByWords ps ws p None = Splits ps ws p None
 
 -- the terms at two places are the same, or not
 abbrev pub Equates : Comparison → ℕ → ℕ → Bool → Type 0

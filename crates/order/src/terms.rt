@@ -3,7 +3,7 @@ ghost use Rattle.std.specs.Prelude.{◌≡◌, slice_index, MatchOption};
 ghost use Rattle.rewriting.specs.Order.{rank};
 ghost use Rattle.rewriting.specs.Terms.{Term};
 ghost use Rattle.books.specs.Rows.{row};
-ghost use Rattle.order.specs.Comparing.{Stands, Headed, Splits, Equates, DifferAt};
+ghost use Rattle.order.specs.Comparing.{Stands, Headed, SplitsByWords, Equates, DifferAt};
 
 use books::words::{Letters, Symbol, symbol_at, term_end};
 
@@ -62,7 +62,7 @@ impl Comparison<'_> {
 
     // The terms behind the first one, if there is a first one.
     pub fn rest(&self, words: &[u32], terms: Parts) -> Option<Parts>
-        ensures { Splits self.now.parts.now words.now terms result }
+        ensures { SplitsByWords self.now.parts.now words.now terms result }
     {
         let count = terms.count.checked_sub(1)?;
         let start = term_end(Letters::Small, self.parts, words, terms.start)?;

@@ -11,12 +11,12 @@ pub all_less-returns-in_default-clause-is : goal.all_less-returns-in_default-cla
 all_less-returns-in_default-clause-is t c = exceeds_none c.args.self.now c.args.k c.args.terms c.in_default.ensures
 
 pub all_less-returns-then-greater-clause-is : goal.all_less-returns-then-greater-clause-is
-all_less-returns-then-greater-clause-is t c = exceeds_next c.args.self.now c.args.k c.args.terms c.in-Some.rest c.in-Some.ensures
+all_less-returns-then-greater-clause-is t c = exceeds_next c.args.self.now c.args.k c.args.terms c.in-Some.rest c.in-Some.ensures.0
     c.all_less.result c.if-greater.ensures.is c.all_less.ensures.is
 
 pub all_less-returns-else-greater-clause-is : goal.all_less-returns-else-greater-clause-is
 all_less-returns-else-greater-clause-is t c = rw c.if-greater.false
-    (exceeds_not c.args.self.now c.args.k c.args.terms c.in-Some.rest c.in-Some.ensures c.if-greater.ensures.is)
+    (exceeds_not c.args.self.now c.args.k c.args.terms c.in-Some.rest c.in-Some.ensures.0 c.if-greater.ensures.is)
 
 pub compare-returns-in_default-clause-is : goal.compare-returns-in_default-clause-is
 compare-returns-in_default-clause-is t c = compares_letter c.args.self.now c.args.k c.args.j c.in_default.ensures
@@ -51,14 +51,14 @@ some_at_least-returns-in_default-clause-is t c = covers_none c.args.self.now c.a
 
 pub some_at_least-returns-then-greater-clause-is : goal.some_at_least-returns-then-greater-clause-is
 some_at_least-returns-then-greater-clause-is t c = rw c.if-greater.true (elim c.if-same.branch [
-  | some_at_least-then-same w ↦ covers_same c.args.self.now c.args.terms c.args.j c.in-Some.rest c.in-Some.ensures w.if-same.ensures
-  | some_at_least-else-same w ↦ covers_greater c.args.self.now c.args.terms c.args.j c.in-Some.rest c.in-Some.ensures
+  | some_at_least-then-same w ↦ covers_same c.args.self.now c.args.terms c.args.j c.in-Some.rest c.in-Some.ensures.0 w.if-same.ensures
+  | some_at_least-else-same w ↦ covers_greater c.args.self.now c.args.terms c.args.j c.in-Some.rest c.in-Some.ensures.0
       (rw (sym w.value-is ∙ c.if-greater.true) at w.greater.ensures.is)
 ])
 
 pub some_at_least-returns-else-greater-clause-is : goal.some_at_least-returns-else-greater-clause-is
 some_at_least-returns-else-greater-clause-is t c = elim c.if-same.branch [
   | some_at_least-then-same w ↦ absurd (cc)
-  | some_at_least-else-same w ↦ covers_next c.args.self.now c.args.terms c.args.j c.in-Some.rest c.in-Some.ensures c.some_at_least.result
+  | some_at_least-else-same w ↦ covers_next c.args.self.now c.args.terms c.args.j c.in-Some.rest c.in-Some.ensures.0 c.some_at_least.result
       w.if-same.ensures (rw (sym w.value-is ∙ c.if-greater.false) at w.greater.ensures.is) c.some_at_least.ensures.is
 ]

@@ -9,8 +9,8 @@ loop-c-preserved c =
     let left = c.in-Some-Some.ensures in
     let right = c.in-Some-Some.ensures' in
     skips_next c.args.self.now c.args.lefts c.args.rights c.loop-c.a c.loop-c.b c.loop-c.invariant
-    c.in-Some-Some.c c.in-Some-Some.d left right
-    (differ_words c.args.self.now c.loop-c.a.start c.loop-c.b.start _ _ left.3 right.3 _ (slice_eq-Decides Decides-eqb _ _)
+    c.in-Some-Some.c c.in-Some-Some.d left.0 right.0
+    (differ_words c.args.self.now c.loop-c.a.start c.loop-c.b.start _ _ left.1 right.1 _ (slice_eq-Decides Decides-eqb _ _)
     _ c.if-ne.ensures)
 
 pub returns-in_default : goal.returns-in_default
@@ -27,6 +27,6 @@ returns-then-ne c =
     let left = c.in-Some-Some.ensures in
     let right = c.in-Some-Some.ensures' in
     skips_differ c.args.self.now c.args.lefts c.args.rights c.loop-c.a c.loop-c.b c.loop-c.invariant
-    c.in-Some-Some.c c.in-Some-Some.d left right
-    (differ_words c.args.self.now c.loop-c.a.start c.loop-c.b.start _ _ left.3 right.3 _ (slice_eq-Decides Decides-eqb _ _)
+    c.in-Some-Some.c c.in-Some-Some.d left.0 right.0
+    (differ_words c.args.self.now c.loop-c.a.start c.loop-c.b.start _ _ left.1 right.1 _ (slice_eq-Decides Decides-eqb _ _)
     _ c.if-ne.ensures)

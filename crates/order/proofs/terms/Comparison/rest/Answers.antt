@@ -1,6 +1,6 @@
 -- By where the first term ends.
 use Rattle.std.proofs.Common.{arith}
-use Rattle.order.proofs.Standing.{splits_none, splits_no_term, splits_some}
+use Rattle.order.proofs.Standing.{splits_none, splits_no_term, splits_by_words}
 use Rattle.order.proofs.terms.Comparison.rest.Goals as goal
 
 pub returns-in_err-count : goal.returns-in_err-count
@@ -12,5 +12,5 @@ returns-in_err-start c = rw c.from_residual-in_err-start.ensures
     (splits_no_term c.args.self.now.parts.now c.args.words.now c.args.terms c.in_err-start.ensures)
 
 pub returns : goal.returns
-returns c = splits_some c.args.self.now.parts.now c.args.words.now c.args.terms _
+returns c = splits_by_words c.args.self.now.parts.now c.args.words.now c.args.terms _
     (omega (arith, c.in_ok-count.ensures)) c.in_ok-start.ensures
